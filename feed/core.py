@@ -83,6 +83,10 @@ class Core:
     def reply(self, who, status, **answer):
         self.act("reply", who, status, {"instance": self.instance, **answer})
 
+    def refuse(self, who, status, code, **more):
+        self.refusals[code] += 1
+        self.reply(who, status, code=code, **more)
+
     def end(self, status, reason):
         if self.ending is None:
             self.ending = status
@@ -96,12 +100,6 @@ class Core:
         self.faults[fault[1]] += 1
         self.tell(f"fault {fault[1]} {where}")
 
-    def count_report_faults(self, dn, told):
-        """One line for all: a line for each would let a caller fill the disk."""
-        for number, count in Counter(fault["fault"] for fault in told).items():
-            self.faults[str(number)] += count
-            self.tell(f"fault {number} for {count:,} reports of DataNode {dn}")
-
     # ---- Time.
 
     def tick(self):
@@ -114,6 +112,7 @@ class Core:
         self.program.tick(paused)
         self.datanodes.tick(paused)
         self.keeping.write()
+        self.keeping.refuse_late()
         self.promotions.tick()
         self.log.tick()
         self.checkpoints.tick()
@@ -131,6 +130,9 @@ class Core:
 
     def looked(self, found, fault=None):
         self.log.looked(found, fault)
+
+    def looking(self, moves):
+        self.log.looking(moves)
 
     def read(self, name, result):
         self.log.read(name, result)
@@ -174,7 +176,7 @@ class Core:
         elif kind in ("promote", "epoch") and self.ending is None and not self.is_stopping:
             self.name(who, kind, body)
         elif is_refused:
-            self.reply(who, 503, code="stopping" if self.is_stopping or self.ending is not None else "loading")
+            self.refuse(who, 503, "stopping" if self.is_stopping or self.ending is not None else "loading")
         elif kind == "stop":
             self.is_stopping = True
             self.reply(who, 200, state=self.program.state)
@@ -191,9 +193,9 @@ class Core:
 
         def given(answer):
             if answer.fault is None:
-                self.reply(who, 200, txid=self.log.reached.txid, file="tables", hides_orders=self.settings.hides_orders)
+                self.reply(who, 200, txid=self.log.reached.txid, file="tables")
             else:
-                self.reply(who, 503, code="no_room", fault=answer.fault)
+                self.refuse(who, 503, "no_room", fault=answer.fault)
 
         exchange = Exchange(lambda: NO_LINES, given, b"tables")
         exchange.file = "tables"
@@ -205,7 +207,7 @@ class Core:
             self.keeping.epoch_asked(who, body["epoch"])
         elif self.program.status is None:
             self.keeping.name_epoch(body["epoch"])
-            self.reply(who, 503, code="loading")
+            self.refuse(who, 503, "loading")
         else:
             self.promotions.asked(who, body)
 

@@ -2,7 +2,7 @@
 
 A part of the core. Which report began and ended the program says; what is here are clocks and callers.
 """
-from collections import deque
+from collections import Counter, deque
 
 from program import NO_LINES, Exchange, Lines
 
@@ -10,6 +10,31 @@ from program import NO_LINES, Exchange, Lines
 BATCH_BYTES = 1_048_576
 # How many DataNodes are asked for a full report at a time, for how long one of them may take to begin, and how long the others wait.
 FULL_AT_ONCE, FULL_SECONDS, AFTER_SECONDS = 16, 60, 5
+# A fault of reports is told once in so many seconds.
+TOLD_SECONDS = 60
+
+
+class ReportFaults:
+    """What is told of faults of reports. A line for each would let a caller fill the disk, and hide all else that is told."""
+
+    def __init__(self, core):
+        self.core = core
+        # When each number was told last; and how many came since, of which DataNodes.
+        self.told_at, self.since = {}, {}
+
+    def count(self, dn, numbers):
+        for number, count in Counter(numbers).items():
+            self.core.faults[str(number)] += count
+            more, datanodes = self.since.setdefault(number, (0, set()))
+            self.since[number] = more + count, datanodes | {dn}
+        self.tell()
+
+    def tell(self):
+        for number in [it for it in self.since if self.core.now - self.told_at.get(it, -TOLD_SECONDS) >= TOLD_SECONDS]:
+            count, datanodes = self.since.pop(number)
+            self.told_at[number] = self.core.now
+            of = f"DataNode {min(datanodes)}" if len(datanodes) == 1 else f"{len(datanodes)} DataNodes"
+            self.core.tell(f"fault {number} for {count:,} report{'s' * (count != 1)} of {of}")
 
 
 class DataNodes:
@@ -27,6 +52,7 @@ class DataNodes:
         # The last second in which the reports' door was full.
         self.full_second = None
         self.taken = 0
+        self.faults = ReportFaults(core)
 
     # ---- Who is there.
 
@@ -36,6 +62,7 @@ class DataNodes:
 
     def tick(self, paused):
         """Time in which nobody could be heard counts for nobody."""
+        self.faults.tell()
         if paused:
             self.heard = {dn: then + paused for dn, then in self.heard.items()}
         if not self.core.is_standby():
@@ -124,7 +151,7 @@ class DataNodes:
                 told.append({"report": line - first + 1, "fault": int(number)})
             first += lines.count
             self.taken += lines.count - len(told)
-            self.core.count_report_faults(dn, told)
+            self.faults.count(dn, [fault["fault"] for fault in told])
             # It waited for this answer, so it could not ask again.
             self.hear(dn)
             status = 409 if told else 200

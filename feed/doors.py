@@ -1,15 +1,18 @@
 """The doors: HTTP on TCP for reports, and on a Unix socket or with a token for operators. One thread watches all connections.
 
 It reads a request as it comes, and hands it to the hands when it is whole; they answer, from their thread. So nobody who
-is slow keeps a thread. A place is a request's, from its first byte to its answer; a connection between two requests has none.
+is slow keeps a thread. A place is a request's, from its whole head to its answer; a connection between two requests has none.
 """
+import errno
 import hashlib
 import hmac
 import json
 import os
 import re
+import resource
 import select
 import socket
+import stat
 import threading
 import time
 import urllib.parse
@@ -18,25 +21,28 @@ from typing import NamedTuple
 
 from bodies import BadBody, epoch_in, heartbeat_in, nothing_in, promotion_in, report_in
 from metrics import metrics
-from page import page
+from page import form, page
 
 BODY_BYTES, HEAD_BYTES, HEADERS = 16_777_216, 65_536, 100
-# A longer body is read by a thread of its own.
-LONG_BODY = 262_144
+# A longer body is read by a thread of its own. All of them together have room for so many bytes.
+LONG_BODY, LONG_BODIES = 262_144, 268_435_456
+FORM_BYTES = 4096
+# So many heads of requests are kept, of at most so many bytes each.
+KEPT_HEADS, KEPT_BYTES = 1024, 1024
 CHUNK_BYTES = 262_144
+# So many chunks of an answer go at a time: who reads quickly keeps nobody waiting.
+TURN_CHUNKS = 4
 # For a request to come whole, for a connection between requests, and for an answer that waits to be read.
 REQUEST_SECONDS, IDLE_SECONDS, ANSWER_SECONDS = 60, 30, 60
 # A caller that was sent away may send so much longer.
 DRAIN_SECONDS = 5
-REPORTS, SCRAPES, OPERATORS = 256, 4, 8
-CONNECTIONS = 4096
+REPORTS, SCRAPES, OPERATORS, ENTRANTS = 256, 4, 8, 2
+# So many connections there are, and so many files are left to the rest of the feeder.
+CONNECTIONS, OTHER_FILES = 4096, 128
+NO_ROOM = (errno.EMFILE, errno.ENFILE, errno.ENOMEM, errno.ENOBUFS)
 
 JSON, TEXT, HTML = "application/json", "text/plain; charset=utf-8", "text/html; charset=utf-8"
 FORM = "application/x-www-form-urlencoded"
-ASKS_FOR_TOKEN = (
-    b'<!doctype html><html lang="en"><head><meta charset="utf-8"><title>Standby</title></head><body><h1>Standby NameNode</h1>'
-    b'<form method="post" action="/enter"><label>Token <input type="password" name="token"></label> <button>Look</button></form></body></html>\n'
-)
 METRICS = "text/plain; version=0.0.4; charset=utf-8"
 REASONS = {
     **{200: "OK", 303: "See Other", 400: "Bad Request", 401: "Unauthorized", 403: "Forbidden", 404: "Not Found"},
@@ -69,6 +75,7 @@ class Route(NamedTuple):
     places: str
     body: object  # reads the body; None: it has none
     show: object = None  # makes the answer's type, its body and the file behind that of the core's value; None: JSON
+    most: int = BODY_BYTES  # the bytes of a body
 
 
 class Places:
@@ -84,6 +91,8 @@ class Door:
     def __init__(self, listener, routes, places, names=None, token=None):
         self.listener, self.routes = listener, routes
         self.places = {name: Places(most) for name, most in places.items()}
+        # The heads of requests that were taken, each with what it asks.
+        self.asked = {}
         # The hosts that a request may name; None: no browser comes here.
         self.names = names
         self.token = token
@@ -97,6 +106,9 @@ class Doors:
         # Hands an event to the core, from any thread; and what reads long bodies.
         self.put, self.worker = put, worker
         self.connections = {}
+        self.most = most_connections()
+        # How many bytes of long bodies there are.
+        self.long_bytes = 0
         self.refused = Counter()
         self.lock = threading.Lock()
         self.epoll = select.epoll()
@@ -109,13 +121,20 @@ class Doors:
         threading.Thread(target=self.watch, daemon=True).start()
 
     def watch(self):
+        """Without this thread nobody is heard, so the feeder ends with it."""
+        try:
+            self.watch_all()
+        except Exception as fault:
+            self.put("end", 1, f"the doors are shut: {fault!r}")
+
+    def watch_all(self):
         swept = clock()
         while self.is_open:
             for descriptor, _ in self.epoll.poll(1):
                 if descriptor in self.doors:
                     self.accept(self.doors[descriptor])
-                elif descriptor in self.connections:
-                    self.guard(self.connections[descriptor], Connection.move)
+                elif found := self.connections.get(descriptor):
+                    self.guard(found, Connection.move)
             if clock() - swept >= 1:
                 swept = clock()
                 for it in list(self.connections.values()):
@@ -127,19 +146,25 @@ class Doors:
                 connection, _ = door.listener.accept()
             except BlockingIOError:
                 return
-            except OSError:
-                # No descriptor is left, or the caller is gone.
-                self.close_idle()
+            except OSError as fault:
+                if fault.errno in NO_ROOM:
+                    self.make_room()
                 return
-            if len(self.connections) >= CONNECTIONS:
-                self.close_idle()
-            self.connections[connection.fileno()] = Connection(self, door, connection)
+            if len(self.connections) >= self.most:
+                self.make_room()
+            try:
+                self.connections[connection.fileno()] = Connection(self, door, connection)
+            except OSError:
+                # The caller is gone.
+                connection.close()
 
-    def close_idle(self):
-        """Closes the connection that has been idle for longest."""
-        idle = [it for it in self.connections.values() if it.stage == "idle"]
-        if idle:
-            min(idle, key=lambda it: it.since).close()
+    def make_room(self):
+        """Closes a connection without a place: one that is idle, that was sent away, or whose request has not begun to be one."""
+        for stage in ("idle", "closing", "reading"):
+            found = [it for it in list(self.connections.values()) if it.stage == stage and it.places is None]
+            for it in sorted(found, key=lambda it: it.since):
+                if it.close_if(stage):
+                    return
 
     def guard(self, connection, work):
         """One caller ends nobody but itself."""
@@ -157,6 +182,12 @@ class Doors:
         self.is_open = False
 
 
+def most_connections():
+    """Fewer than there may be files: the rest of the feeder needs some."""
+    files = resource.getrlimit(resource.RLIMIT_NOFILE)[0]
+    return CONNECTIONS if files == resource.RLIM_INFINITY else max(min(CONNECTIONS, files - OTHER_FILES), 1)
+
+
 class Connection:
     """A caller. Its stages: `idle`, `reading`, `asked`, `writing`; and `closed`."""
 
@@ -170,13 +201,13 @@ class Connection:
         self.lock = threading.RLock()
         self.data = b""
         self.parts, self.missing = [], 0
+        self.places, self.long_bytes = None, 0
         self.begin_idle()
         doors.epoll.register(self.descriptor, READABLE)
 
     def begin_idle(self):
         self.stage, self.since = "idle", clock()
         self.route = self.request = None
-        self.places = None
         self.left, self.source = b"", None
 
     # ---- Reading. Only the watching thread does.
@@ -215,45 +246,75 @@ class Connection:
         """Takes the head of a request, once it is whole."""
         end = self.data.find(b"\r\n\r\n")
         try:
+            if max(end, len(self.data) if end < 0 else 0) > HEAD_BYTES:
+                raise Refused(431, "the head is too long")
             if end < 0:
-                if len(self.data) > HEAD_BYTES:
-                    raise Refused(431, "the head is too long")
                 return self.await_more()
             head, rest = self.data[:end], self.data[end + 4 :]
             self.data = b""
-            self.request = Request(head)
-            self.route = self.request.route(self.door)
+            asked = self.door.asked.get(head) or self.read_head(head)
+            self.request, self.route, self.missing = asked
             self.enter()
-            self.missing = self.request.length(self.route)
+            self.is_long = self.missing > LONG_BODY
         except Refused as refused:
             return self.refuse(refused)
         if self.missing > len(rest) and self.request.only("expect").lower() == "100-continue":
             self.send_now(b"HTTP/1.1 100 Continue\r\n\r\n")
         self.take_body(rest)
 
+    def read_head(self, head):
+        """The request of a head, its route, and the bytes that its body has. Most callers send the same one again."""
+        self.request = Request(head)
+        self.route = self.request.route(self.door, self.socket.getsockname)
+        asked = self.request, self.route, self.request.length(self.route)
+        if len(head) <= KEPT_BYTES and self.request.is_of_any_address:
+            if len(self.door.asked) >= KEPT_HEADS:
+                self.door.asked.clear()
+            self.door.asked[head] = asked
+        return asked
+
     def enter(self):
         """Takes a place, or is sent away."""
         places = self.door.places[self.route.places]
         with self.doors.lock:
-            if places.taken >= places.most:
-                self.doors.put("door_was_full") if self.route.places == "reports" else None
-                raise Refused(503, "all places are taken", "busy")
-            places.taken += 1
+            is_full = places.taken >= places.most
+            places.taken += not is_full
+        if is_full:
+            raise self.sent_away("all places are taken")
         self.places = places
 
+    def sent_away(self, reason):
+        """The refusal of one who has to come again."""
+        if self.route.places == "reports":
+            self.doors.put("door_was_full")
+        return Refused(503, reason, "busy")
+
     def take_body(self, chunk):
-        self.parts.append(chunk[: self.missing])
+        part = chunk[: self.missing]
         self.data = chunk[self.missing :]
-        self.missing -= len(self.parts[-1])
+        self.missing -= len(part)
+        if self.is_long and not self.hold(len(part)):
+            self.parts, self.data = [], b""
+            return self.refuse(self.sent_away("there is no room for one more long body now"))
+        self.parts.append(part)
         if self.missing:
             return self.await_more()
         self.stage = "asked"
         self.since = clock()
         body, self.parts = b"".join(self.parts), []
-        if len(body) > LONG_BODY:
-            self.doors.worker.do(lambda: self.ask(body))
+        if self.is_long:
+            self.doors.worker.do(lambda: self.doors.guard(self, lambda it: it.ask(body)))
         else:
             self.ask(body)
+
+    def hold(self, count):
+        """Takes room for bytes of a long body, until it is answered. Answers whether there was room."""
+        with self.doors.lock:
+            is_room = self.doors.long_bytes + count <= LONG_BODIES
+            if is_room:
+                self.doors.long_bytes += count
+                self.long_bytes += count
+        return is_room
 
     def ask(self, body):
         try:
@@ -277,7 +338,7 @@ class Connection:
         """Answers who is not heard. What is left of its request is not read: the connection ends."""
         self.doors.refused[refused.code] += 1
         if refused.status == 401 and self.request.path == "/":
-            self.begin_answer(401, HTML, ASKS_FOR_TOKEN, is_last=True)
+            self.begin_answer(401, HTML, form(), is_last=True)
             return
         value = {"code": refused.code, "refused": str(refused)}
         self.begin_answer(refused.status, JSON, to_bytes(value), is_last=True)
@@ -310,15 +371,17 @@ class Connection:
 
     def write(self):
         try:
-            while self.left or self.fill():
+            for _ in range(TURN_CHUNKS):
+                if not self.left and not self.fill():
+                    return self.leave()
                 self.left = self.left[self.socket.send(self.left) :]
+                # Who reads a long answer slowly gets it whole.
+                self.since = clock() if self.source else self.since
         except BlockingIOError:
-            self.doors.epoll.modify(self.descriptor, WRITABLE)
-            return
+            pass
         except OSError:
-            self.close()
-            return
-        self.leave()
+            return self.close()
+        self.doors.epoll.modify(self.descriptor, WRITABLE)
 
     def fill(self):
         """Takes more of the answer from its file. Answers whether there was more."""
@@ -350,6 +413,8 @@ class Connection:
 
     def give_place_back(self):
         with self.doors.lock:
+            self.doors.long_bytes -= self.long_bytes
+            self.long_bytes = 0
             if self.places is not None:
                 self.places.taken -= 1
                 self.places = None
@@ -384,15 +449,24 @@ class Connection:
         except OSError:
             self.close()
 
+    def close_if(self, stage):
+        """Closes it if it is still at this stage, and has no place. Answers whether it was."""
+        with self.lock:
+            is_so = self.stage == stage and self.places is None
+            if is_so:
+                self.close()
+        return is_so
+
     def close(self):
-        if self.stage == "closed":
-            return
-        self.stage = "closed"
-        if self.source is not None:
-            self.source.close()
-        self.give_place_back()
-        self.doors.connections.pop(self.descriptor, None)
-        self.socket.close()
+        with self.lock:
+            if self.stage == "closed":
+                return
+            self.stage = "closed"
+            if self.source is not None:
+                self.source.close()
+            self.give_place_back()
+            self.doors.connections.pop(self.descriptor, None)
+            self.socket.close()
 
 
 class Request:
@@ -407,6 +481,8 @@ class Request:
             raise Refused(431, f"there are more than {HEADERS} headers")
         self.method, self.path = line[1].decode(), line[2].decode().partition("?")[0]
         self.headers = {}
+        # Whether it is taken wherever the caller came to.
+        self.is_of_any_address = True
         for row in rows:
             header = HEADER.fullmatch(row)
             if not header:
@@ -422,10 +498,10 @@ class Request:
             raise Refused(400, f"{name} comes {len(found)} times")
         return found[0]
 
-    def route(self, door):
-        """What is asked, by one who may."""
+    def route(self, door, own):
+        """What is asked, by one who may. `own` answers the address to which the caller came."""
         if door.names is not None:
-            self.check_host(door)
+            self.check_host(door, own)
         self.check_origin(door)
         routes = {method for method, path in door.routes if path == self.path}
         if not routes:
@@ -444,9 +520,12 @@ class Request:
         if (origin and not is_own) or self.only("sec-fetch-site", "none") not in ("none", "same-origin"):
             raise Refused(403, "a page of another origin has nothing to ask here", "forbidden")
 
-    def check_host(self, door):
-        if self.only("host").lower() not in door.names:
-            raise Refused(403, "the Host is not this port", "forbidden")
+    def check_host(self, door, own):
+        """A browser that took this host for one of another site's names says so. An address is nobody's name."""
+        host = self.only("host").lower()
+        self.is_of_any_address = host in door.names
+        if not self.is_of_any_address and host not in (names := [":".join(map(str, own()[:2]))]):
+            raise Refused(403, f"the Host is none of {', '.join(sorted({*names, *door.names}))}", "forbidden")
 
     def has_token(self, token):
         """What changes something needs the token itself. A browser that has shown it once may look."""
@@ -467,8 +546,8 @@ class Request:
             return 0
         if not re.fullmatch("[0-9]{1,18}", length):
             raise Refused(411, "the body needs a Content-Length", "length_required")
-        if int(length) > BODY_BYTES:
-            raise Refused(413, f"the body has more than {BODY_BYTES:,} bytes", "too_large")
+        if int(length) > route.most:
+            raise Refused(413, f"the body has more than {route.most:,} bytes", "too_large")
         kind = FORM if route is ENTER else JSON
         if self.only("content-type").partition(";")[0].strip().lower() != kind:
             raise Refused(415, f"the Content-Type has to be {kind}", "media_type")
@@ -480,15 +559,11 @@ def to_bytes(value):
 
 
 def show_tables(value):
-    """The program's tables, with the cluster's TXID in their first line, and without orders where none is shown."""
+    """The program's tables, with the cluster's TXID in their first line."""
     source = value["file"]
     source.seek(0)
     source.readline()
-    body = b"txid %d\n" % value["txid"]
-    if not value["hides_orders"]:
-        return TEXT, body, source
-    with source:
-        return TEXT, body + b"".join(line for line in source if not line.startswith(b"order ")), None
+    return TEXT, b"txid %d\n" % value["txid"], source
 
 
 def token_in(body):
@@ -501,7 +576,8 @@ def cookie_of(token):
     return b"token=" + hashlib.sha256(b"page " + token).hexdigest().encode()
 
 
-ENTER = Route("enter", "operators", token_in)
+# Who has no token yet takes no operator's place.
+ENTER = Route("enter", "entrants", token_in, None, FORM_BYTES)
 HEALTH = Route("health", "scrapes", None)
 FIGURES = Route("figures", "scrapes", None, lambda value: (METRICS, metrics(value), None))
 REPORT_ROUTES = {
@@ -530,11 +606,11 @@ def report_door(address, port):
 
 
 def operator_door(path):
-    """A Unix socket that its owner alone may open."""
-    try:
+    """A Unix socket that its owner alone may open. One that was left there is removed, and nothing else."""
+    if os.path.lexists(path):
+        if not stat.S_ISSOCK(os.lstat(path).st_mode):
+            raise FileExistsError(errno.EEXIST, "this is there, and is no socket", path)
         os.unlink(path)
-    except FileNotFoundError:
-        pass
     listener = socket.socket(socket.AF_UNIX, socket.SOCK_STREAM)
     before = os.umask(0o177)
     try:
@@ -549,4 +625,4 @@ def token_door(address, port, token):
     listener = socket.create_server((address, port), backlog=64, reuse_port=False)
     port = listener.getsockname()[1]
     names = {f"{name}:{port}" for name in (address.lower(), "127.0.0.1", "localhost", socket.gethostname().lower())}
-    return Door(listener, {**OPERATOR_ROUTES, ("POST", "/enter"): ENTER}, {"operators": OPERATORS}, names, token)
+    return Door(listener, {**OPERATOR_ROUTES, ("POST", "/enter"): ENTER}, {"operators": OPERATORS, "entrants": ENTRANTS}, names, token)

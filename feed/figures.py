@@ -27,7 +27,9 @@ def figures(core) -> dict:
         "txid": log.reached.txid,
         "known": keeping.kept.seen,
         "lag": max(keeping.kept.seen - log.reached.txid, 0),
-        "waits": log.waits,
+        "waits": log.waits and log.waits.text,
+        "why": log.waits and log.waits.why,
+        "folder": log.fault if log.done else None,
         "epoch": keeping.kept.epoch,
         "promotion": promotion_of(keeping.kept.promotion),
         "checkpoint": core.checkpoints.txid,
@@ -63,7 +65,8 @@ def seconds(core):
 
 def of_program(core):
     status = core.program.status
-    words = {key: rest for key, *rest in (line.decode().split() for line in status.lines)}
+    lines = [line for line in status.data.splitlines() if not line.startswith((b"fault ", b"done "))]
+    words = {key: rest for key, *rest in (line.decode().split() for line in lines)}
     total, safe, needed = (int(words["blocks"][at]) for at in (0, 2, 4)) if "blocks" in words else (0, 0, 0)
     return {
         "version": words["version"][0],
@@ -73,7 +76,7 @@ def of_program(core):
         "blocks": {"total": total, "safe": safe, "needed": needed},
         "safe_mode": words.get("blocks", ["off"])[-1] == "on",
         **{name: int(words[name][0]) for name in COUNTS if name in words and not (core.settings.hides_orders and name == "orders")},
-        "datanodes": [datanode(core, *line.split()) for line in status.lines if line.startswith(b"datanode ")],
+        "datanodes": [datanode(core, *line.split()) for line in lines if line.startswith(b"datanode ")],
     }
 
 

@@ -49,11 +49,12 @@ class System:
         return key_of(found), found.st_size, file
 
     @staticmethod
-    def sum(path):
+    def sum(path, moved):
         with open(path, "rb") as file:
             made = hashlib.sha256()
             for chunk in iter(lambda: file.read(CHUNK_BYTES), b""):
                 made.update(chunk)
+                moved()
             return made.hexdigest()
 
 
@@ -68,6 +69,11 @@ class Folder:
         self.named = []
         # The sums that were taken, each with the key that its file had.
         self.sums = {}
+        # How many files and parts of them were asked for: while it grows a look does not hang.
+        self.moves = 0
+
+    def moved(self):
+        self.moves += 1
 
     def look(self, look: Look) -> Dict[str, Found]:
         """The segments above a TXID. It raises OSError where the folder can't be listed."""
@@ -81,6 +87,7 @@ class Folder:
         return {it.name: self.found(it, look) for it in self.named}
 
     def found(self, it: Named, look: Look) -> Found:
+        self.moved()
         is_next = it.is_finalized and it.first <= look.above + 1
         is_summed = it.name in look.summed or (look.summed_above is not None and it.last > look.summed_above)
         return Found(
@@ -94,7 +101,7 @@ class Folder:
         """The sum of a file, which is taken anew where the file has changed."""
         key = key_of(self.system.stat(path))
         if self.sums.get(name, (None,))[0] != key:
-            self.sums[name] = key, self.system.sum(path)
+            self.sums[name] = key, self.system.sum(path, self.moved)
         return self.sums[name][1]
 
     def tried(self, ask, it: Named, otherwise):

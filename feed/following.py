@@ -7,6 +7,10 @@ from place import Place
 from program import Exchange, Lines
 
 LOOK_SECONDS = 30
+# A segment that is read for longer may lie on a mount that hangs.
+SLOW_SECONDS = 10
+# Why the log waits.
+WHYS = ("missing", "bad", "unreadable", "slow", "given_up")
 
 
 class Unreadable(NamedTuple):
@@ -31,6 +35,11 @@ class Taken(NamedTuple):
     end: Place  # where the log is behind the file
 
 
+class Waits(NamedTuple):
+    why: str
+    text: str
+
+
 class Log:
     """Where the log is, what the folder has of it, and the segment that is being followed."""
 
@@ -45,12 +54,13 @@ class Log:
         self.bad, self.reasons, self.unread = {}, {}, {}
         self.passed_over = set()
         # Why the log does not go on.
-        self.waits: Optional[str] = None
+        self.waits: Optional[Waits] = None
         self.begin_looks()
         # The segment under way, what is left of it to send, and what is known of its file.
         self.name: Optional[str] = None
         self.pieces = deque()
         self.file: Optional[Taken] = None
+        self.reading_at = core.now
         # When there was a new segment last, and a new transaction; and since when the log is behind what was seen.
         self.grown_at = self.applied_at = core.now
         self.behind_at: Optional[float] = None
@@ -61,13 +71,19 @@ class Log:
         self.fault: Optional[str] = "it was not looked at"
         self.begun = self.done = 0
         self.is_looking = self.is_wanted = False
-        self.looked_at = self.begun_at = self.listed_at = self.core.now - LOOK_SECONDS
+        self.looked_at = self.begun_at = self.listed_at = self.moved_at = self.core.now - LOOK_SECONDS
+        self.moves = 0
 
     # ---- Looks.
 
     def tick(self):
         if self.core.is_standby() and not self.is_looking and self.core.now - self.begun_at >= self.core.settings.poll:
             self.look(self.core.now - self.listed_at >= LOOK_SECONDS)
+        if self.behind_at is None and self.core.is_standby() and self.core.keeping.kept.seen > self.reached.txid:
+            # What was seen before a restart counts, too.
+            self.behind_at = self.core.now
+        if self.name is not None and self.file is None and self.core.now - self.reading_at > SLOW_SECONDS:
+            self.wait_for(Waits("slow", f"{self.name} is read for more than {SLOW_SECONDS} seconds"))
         self.follow()
 
     def look(self, is_fresh):
@@ -86,6 +102,15 @@ class Log:
             return self.begun
         self.is_wanted = True
         return self.begun + 1
+
+    def looking(self, moves):
+        """How far the looks have come. One that comes on is slow, and does not hang."""
+        if moves != self.moves:
+            self.moves, self.moved_at = moves, self.core.now
+
+    def hangs(self, seconds):
+        """Whether a look has come no further for so long."""
+        return self.is_looking and self.core.now - max(self.begun_at, self.moved_at) > seconds
 
     def looked(self, found, fault):
         """What a look found, or why it could not look."""
@@ -136,7 +161,7 @@ class Log:
         following = [it for it in self.found.values() if self.is_next(it)]
         for it in sorted(following, key=lambda found: found.named):
             if it.named.name not in self.unread and not self.is_bad(it):
-                self.name = it.named.name
+                self.name, self.reading_at = it.named.name, self.core.now
                 self.core.act("read", it.named, self.reached)
                 return
         self.wait_for(self.reason(following))
@@ -153,18 +178,20 @@ class Log:
         """Why no segment is read, or None where all is read that was seen."""
         if following:
             name = min(it.named for it in following).name
-            return self.unread.get(name) or f"{name} was not taken{self.reasons.get(name, '')}"
+            if name in self.unread:
+                return Waits("unreadable", self.unread[name])
+            return Waits("bad", f"{name} was not taken{self.reasons.get(name, '')}")
         if self.doubts:
-            return f"{min(self.doubts)} may be one that a promotion gave up"
+            return Waits("given_up", f"{min(self.doubts)} may be one that a promotion gave up")
         if self.core.keeping.kept.seen <= self.reached.txid:
             return None
-        return f"TXID {self.reached.txid + 1} is next and is not there"
+        return Waits("missing", f"TXID {self.reached.txid + 1} is next and is not there")
 
-    def wait_for(self, reason):
+    def wait_for(self, waits):
         """Why the log waits is told once."""
-        if reason and reason != self.waits:
-            self.core.tell(reason)
-        self.waits = reason
+        if waits and waits != self.waits:
+            self.core.tell(waits.text)
+        self.waits = waits
 
     def read(self, name, result):
         """A file as it is sent, or why it can't be."""
@@ -232,6 +259,10 @@ class Log:
             self.behind_at = None
         self.core.promotions.advanced()
         self.core.checkpoints.tick()
+
+    def leave_off(self):
+        """It is active: the log waits for nothing, and is behind nothing."""
+        self.waits = self.behind_at = None
 
     def stopped_txid(self, number):
         """The TXID of the transaction that stopped the log."""

@@ -6,6 +6,7 @@ hard mount; one writes files; one tells. Threads of requests put them here, and 
 import fcntl
 import os
 import queue
+import re
 import selectors
 import subprocess
 import tempfile
@@ -21,6 +22,9 @@ CHUNK_BYTES = 1_048_576
 SET_PIPE_SIZE = 1031
 SECONDS_TO_END = 5
 TOLD_LINES = 1000
+# What the program tells of an image that it does not take.
+OF_IMAGE = re.compile(rb"fault 6[1-6]\b")
+ORDER = re.compile(rb"^order .*\n", re.MULTILINE)
 
 clock = time.monotonic
 
@@ -186,6 +190,8 @@ class Hands:
         self.long = None
         self.moved_at = now
         self.status = None
+        # Whether the image is what the program, or its check, did not take.
+        self.is_image_bad = False
         self.actions = {
             "list": self.look,
             "read": self.read,
@@ -248,6 +254,7 @@ class Hands:
         self.core.now = clock()
         self.core.moved(self.moved_at)
         self.core.loaded(self.process.loaded())
+        self.core.looking(self.folder.moves)
         self.core.tick()
         self.act()
         if self.process.process.poll() is not None and self.core.program.under_way is None:
@@ -319,6 +326,7 @@ class Hands:
             self.process.unsent.clear()
             self.process.forget_image()
             self.process.kill()
+            self.is_image_bad = True
             self.core.end(1, f"the checkpoint can't be taken: {fault}")
             self.act()
 
@@ -328,6 +336,7 @@ class Hands:
             done, file = self.exchanges.get()
             answer = Answer(self, done, file)
             if not answer.read():
+                self.is_image_bad |= bool(OF_IMAGE.match(answer.last()))
                 self.put("end", 1, f"the program ended{answer.told()}")
                 return
             self.put("answered", answer.data, answer.fault)
@@ -338,7 +347,20 @@ class Hands:
             self.writing[name] = self.store.begin(name)
             return self.writing[name]
         self.long = tempfile.TemporaryFile()
-        return self.long
+        return WithoutOrders(self.long) if self.core.settings.hides_orders else self.long
+
+
+class WithoutOrders:
+    """The file of tables, where no order is shown: their lines are left out."""
+
+    def __init__(self, file):
+        self.file = file
+        self.rest = b""
+        self.close = file.close
+
+    def write(self, data):
+        whole, end, self.rest = (self.rest + data).rpartition(b"\n")
+        self.file.write(ORDER.sub(b"", whole + end))
 
 
 class Answer:
@@ -385,9 +407,12 @@ class Answer:
         if self.fault is not None and self.file is not None:
             fault_of(self.file.close)
 
+    def last(self):
+        """The line that came last."""
+        return b"".join(self.data.splitlines()[-1:])
+
     def told(self):
-        line = self.data.splitlines()[-1:]
-        return f", and told {line[0].decode()!r}" if line else ""
+        return f", and told {self.last().decode(errors='replace')!r}" if self.last() else ""
 
 
 def fault_of(work):

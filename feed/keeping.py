@@ -3,6 +3,7 @@
 A part of the core: it says what is to be written, and hears whether it was. What is relied on was written before.
 """
 from program import NO_LINES, Exchange
+from promotions import LATE_SECONDS
 from state import NAME, Kept, bytes_of
 
 FIRST_PAUSE, LAST_PAUSE = 10, 3600
@@ -61,20 +62,27 @@ class Keeping:
         return self.safe is not None and self.safe.epoch >= epoch or epoch == 0
 
     def epoch_asked(self, who, epoch):
-        self.waiting.append((who, epoch))
+        self.waiting.append((who, epoch, self.core.now + LATE_SECONDS))
         self.name_epoch(epoch)
         self.answer_epochs(None)
+
+    def refuse_late(self):
+        """Nobody waits for ever for a disk that hangs. The epoch counts all the same."""
+        late = [it for it in self.waiting if self.core.now > it[2]]
+        self.waiting = [it for it in self.waiting if self.core.now <= it[2]]
+        for who, *_ in late:
+            self.core.refuse(who, 503, "late")
 
     def answer_epochs(self, written):
         """Answers who asked for an epoch that is kept now, once it was said, and who asked for one that could not be written."""
         waiting, self.waiting = self.waiting, []
-        for who, epoch in waiting:
+        for who, epoch, until in waiting:
             if self.has_epoch(epoch):
                 self.core.program.ask(Exchange(lambda: NO_LINES, lambda answer, who=who: self.reply_epoch(who)), is_first=True)
             elif written is not None and written.epoch >= epoch:
-                self.core.reply(who, 503, code="not_kept")
+                self.core.refuse(who, 503, "not_kept")
             else:
-                self.waiting.append((who, epoch))
+                self.waiting.append((who, epoch, until))
 
     def reply_epoch(self, who):
         self.core.reply(who, 200, epoch=self.kept.epoch, state=self.core.program.state)

@@ -1,10 +1,11 @@
 """What Prometheus is shown: the figures in its text format. Values alone; the doors call it."""
 from figures import COUNTS
+from following import WHYS
 
 # The faults that a service tells of what comes to it, as docs/FORMATS.md has them. Each is there from the start.
 FAULTS = (*range(1, 8), 12, 13, 14, 17, 19, *range(21, 34), 51, 53, 56, 57, 59)
 CODES = (
-    *("stopped", "in_segment", "late_epoch", "behind", "ahead", "edits_above", "folder_unreadable", "not_kept", "late"),
+    *("stopped", "in_segment", "late_epoch", "behind", "ahead", "edits_above", "folder_unreadable", "not_kept", "late", "no_room"),
     *("busy", "loading", "stopping", "bad_request", "forbidden", "unauthorized", "not_found", "method", "length_required", "too_large", "media_type"),
 )
 STATES = ("loading", "standby", "active", "deposed", "stopped")
@@ -30,7 +31,7 @@ def metrics(figures: dict) -> bytes:
         ("known_txid", "gauge", "The greatest TXID that was ever seen.", figures["known"]),
         ("lag_transactions", "gauge", "How many transactions are known and not reached.", figures["lag"]),
         ("lag_seconds", "gauge", "For how long transactions have been known and not reached.", figures["seconds"]["behind"] or 0),
-        ("waits", "gauge", "Whether the log waits for a segment that is missing, bad or can't be read.", int(figures["waits"] is not None)),
+        ("waits", "gauge", "Whether the log waits for a segment for this reason.", each("why", {why: int(figures["why"] == why) for why in WHYS})),
         ("epoch", "gauge", "The greatest epoch that was named.", figures["epoch"]),
         ("checkpoint_txid", "gauge", "The TXID of the last checkpoint.", figures["checkpoint"]),
         *(row for name, about in SINCE.items() for row in since(name, about, figures["seconds"][name])),

@@ -3,10 +3,14 @@ import time
 from html import escape
 
 STYLE = (
-    "body{font-family:sans-serif;margin:2em}td,th{padding:.2em 1.2em .2em 0;text-align:left;vertical-align:top}"
-    ".bad{background:#fbd5d5}.warn{background:#fdf0c8}.good{background:#d9f2dd}"
+    "body{font-family:sans-serif;margin:2em}td,th{padding:.2em 1.2em .2em .3em;text-align:left;vertical-align:top}td{overflow-wrap:anywhere}"
+    ".bad{background:#fbd5d5;font-weight:bold}.warn{background:#fdf0c8}.good{background:#d9f2dd}"
+    ".datanodes td{overflow-wrap:normal}"
+    "@media(max-width:40em){body{margin:.7em}td,th{padding-right:.5em}ul{padding-left:1.2em}.datanodes{font-size:.85em}}"
 )
-SILENT_SECONDS = 60
+# A telephone shows the page as wide as it is itself.
+HEAD = '<!doctype html><html lang="en"><head><meta charset="utf-8"><meta name="viewport" content="width=device-width,initial-scale=1">'
+SILENT_SECONDS, ANSWER_SECONDS = 60, 10
 
 
 def page(figures: dict) -> bytes:
@@ -14,11 +18,19 @@ def page(figures: dict) -> bytes:
     rows = "".join(row(*it) for it in (*of_service(figures), *of_program(figures)))
     now = time.strftime("%Y-%m-%d %H:%M:%S UTC", time.gmtime())
     return (
-        '<!doctype html><html lang="en"><head><meta charset="utf-8"><meta http-equiv="refresh" content="5">'
+        f'{HEAD}<meta http-equiv="refresh" content="5">'
         f"<title>Standby: {escape(figures['state'])}</title><style>{STYLE}</style></head><body><h1>Standby NameNode</h1><p>{now}</p>"
-        f"<table>{rows}</table><h2>DataNodes</h2><table>"
+        f"<table>{rows}</table><h2>DataNodes</h2><table class=datanodes>"
         "<tr><th>DataNode</th><th>messages</th><th>held</th><th>heard</th><th>full report</th></tr>"
         f"{''.join(map(datanode, figures.get('datanodes', [])))}</table><h2>Told last</h2><ul>{told}</ul></body></html>\n"
+    ).encode()
+
+
+def form() -> bytes:
+    """What a browser is asked for that has not shown the token."""
+    return (
+        f"{HEAD}<title>Standby</title><style>{STYLE}</style></head><body><h1>Standby NameNode</h1>"
+        '<form method="post" action="/enter"><label>Token <input type="password" name="token"></label> <button>Look</button></form></body></html>\n'
     ).encode()
 
 
@@ -33,17 +45,31 @@ def of_service(figures):
     lag = f"{figures['lag']:,} transactions" + (f", for {spell(since['behind'])}" if figures["lag"] and since["behind"] is not None else "")
     yield "Lag", lag, "warn" if figures["lag"] else "good"
     yield "The log waits", figures["waits"] or "no", "bad" if figures["waits"] else ""
+    yield "Last answer of the program", f"{spell(since['answer'])} ago", "bad" if since["answer"] > ANSWER_SECONDS else ""
     yield "Last new segment", f"{spell(since['segment'])} ago", ""
-    yield "Last look at the folder", f"{spell(since['look'])} ago", "warn" if since["look"] > SILENT_SECONDS else ""
+    yield folder(figures)
     written = f", {spell(since['checkpoint'])} ago" if since["checkpoint"] is not None else ""
     failed = figures["failures"].get("checkpoint", 0)
-    yield "Last checkpoint", f"TXID {figures['checkpoint']:,}{written}" + (f"; {failed:,} failed" if failed else ""), "warn" if failed else ""
+    last = f"TXID {figures['checkpoint']:,}{written}" if figures["checkpoint"] or written else "none yet"
+    yield "Last checkpoint", last + (f"; {failed:,} failed" if failed else ""), "warn" if failed else ""
     promotion = figures["promotion"]
     if promotion:
-        given = f", {len(promotion['given_up']):,} segments given up" if promotion["given_up"] else ""
+        count = len(promotion["given_up"])
+        given = f", {count:,} segment{'s' * (count != 1)} given up" if count else ""
         yield "Last promotion", f"TXID {promotion['txid']:,}, epoch {promotion['epoch']:,}{given}", ""
     yield "Epoch", f"{figures['epoch']:,}", ""
     yield "Started", f"{time_of(since['up'])}, version {figures.get('version', 'not known yet')}, instance {figures['instance']}", ""
+
+
+def folder(figures):
+    """When it was looked at. Who is active follows it no more."""
+    look = figures["seconds"]["look"]
+    text = f"{spell(look)} ago"
+    if figures["state"] != "standby":
+        return "Last look at the folder", text, ""
+    if figures["folder"]:
+        return "Last look at the folder", f"{text}; it can't be read: {figures['folder']}", "bad"
+    return "Last look at the folder", text, "warn" if look > SILENT_SECONDS else ""
 
 
 def of_program(figures):

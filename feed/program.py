@@ -2,12 +2,20 @@
 
 A part of the core: no pipe and no clock. An exchange is some lines and a word behind them. It is made when it is sent.
 """
+import re
 from collections import deque
 from typing import Callable, FrozenSet, List, NamedTuple, Optional, Tuple
 
 from place import number_of_seen
 
 SILENT_SECONDS, HUNG_SECONDS = 5, 60
+# Lines of `status`. It has some for each DataNode, and comes with each report.
+STATE = re.compile(rb"^state (\w+)(?: (\d+) (\d+))?$", re.MULTILINE)
+TXID = re.compile(rb"^txid (\d+)$", re.MULTILINE)
+EPOCH = re.compile(rb"^epoch \d+ (\d+)$", re.MULTILINE)
+FULL = re.compile(rb"^full (\d+)$", re.MULTILINE)
+OPEN = re.compile(rb"^datanode (\d+) .* report \d+$", re.MULTILINE)
+TOLD = re.compile(rb"^(unknown|fault .*)$", re.MULTILINE)
 
 
 class Lines(NamedTuple):
@@ -21,7 +29,7 @@ NO_LINES = Lines(b"", 0)
 class Answer(NamedTuple):
     first: int  # the number of the first line that the exchange itself sent
     faults: List[List[str]]  # the words of each line that begins with `fault`
-    lines: List[bytes]
+    data: bytes
     # Why the file of a long answer could not be written.
     fault: Optional[str] = None
 
@@ -36,7 +44,7 @@ class Status(NamedTuple):
     promoted: int  # the epoch of its promotion
     full: FrozenSet[int]  # the DataNodes whose full report began and ended
     open: FrozenSet[int]  # those whose full report began
-    lines: Tuple[bytes, ...]
+    data: bytes
 
 
 class Exchange:
@@ -122,7 +130,7 @@ class Program:
         self.answered_at = self.moved_at = self.core.now
         answer = answer_of(data, exchange.first)._replace(fault=fault)
         if exchange.word == b"status":
-            self.status = status_of(answer.lines)
+            self.status = status_of(answer.data)
         exchange.then(answer)
 
     def full_report(self, dn):
@@ -158,36 +166,20 @@ class Program:
 
 
 def answer_of(data, first):
-    faults, lines = [], []
-    for line in data.splitlines():
-        if line == b"unknown":
-            raise Unknown("the program does not know a word of this feeder: it is older")
-        if line.startswith(b"fault "):
-            faults.append(line.decode().split())
-        elif not line.startswith(b"done "):
-            lines.append(line)
-    return Answer(first, faults, lines)
+    told = TOLD.findall(data)
+    if b"unknown" in told:
+        raise Unknown("the program does not know a word of this feeder: it is older")
+    return Answer(first, [line.decode().split() for line in told], data)
 
 
-def status_of(lines):
-    words = {}
-    full, begun = set(), set()
-    for line in lines:
-        key, *rest = line.split()
-        if key == b"full":
-            full.add(int(rest[0]))
-        elif key == b"datanode":
-            if b"report" in rest:
-                begun.add(int(rest[0]))
-        else:
-            words[key] = rest
-    state, *stop = words[b"state"]
+def status_of(data):
+    state, *stop = STATE.search(data).groups()
     return Status(
         state.decode(),
-        (int(stop[0]), int(stop[1])) if stop else None,
-        int(words[b"txid"][0]),
-        int(words[b"epoch"][1]),
-        frozenset(full),
-        frozenset(begun),
-        tuple(lines),
+        (int(stop[0]), int(stop[1])) if stop[0] else None,
+        int(TXID.search(data)[1]),
+        int(EPOCH.search(data)[1]),
+        frozenset(map(int, FULL.findall(data))),
+        frozenset(map(int, OPEN.findall(data))),
+        data,
     )

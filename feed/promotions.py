@@ -12,6 +12,8 @@ from state import Promotion
 
 # A promotion that waited so long is not sent: its caller is gone, and what it knew is old.
 LATE_SECONDS = 5
+# A look that comes no further for so long may be one at a mount that hangs.
+HANG_SECONDS = 3
 # The names of the program's refusals.
 CODES = {"51": "stopped", "13": "in_segment", "59": "late_epoch"}
 
@@ -101,10 +103,21 @@ class Promotions:
             else:
                 self.send()
 
+    def look_hangs(self):
+        """What gives up all that lies above needs no look. What waits for one makes room for who is behind it."""
+        if self.stage != "looked" or not self.core.log.hangs(HANG_SECONDS):
+            return
+        if self.current.is_lost:
+            self.core.tell("the folder hangs: what the promotion gives up is not known by name")
+            self.send()
+        elif self.queue:
+            self.refuse(409, "folder_unreadable")
+
     def give_up(self):
-        """What lies above its TXID is kept by name and sum, before it is sent."""
-        found = self.core.log.found.values()
-        above = {it.named.name: it.sum for it in found if it.named.last > self.current.txid and it.is_begun}
+        """What lies above its TXID is kept by name and sum, before it is sent. Of what is in doubt the name alone is known."""
+        log = self.core.log
+        above = {it.named.name: it.sum for it in log.found.values() if it.named.last > self.current.txid and it.is_begun}
+        above.update({name: None for name, last in log.doubts.items() if last > self.current.txid})
         self.current.before = self.core.keeping.kept.promotion
         self.current.promotion = Promotion(self.current.txid, self.current.epoch, False, above)
         self.stage = "given_up"
@@ -156,9 +169,13 @@ class Promotions:
         if wanted.is_first or kept.promotion is None or kept.promotion[:3] != promotion[:3]:
             seen = wanted.txid if wanted.is_lost and wanted.is_first else kept.seen
             self.core.keeping.change(promotion=promotion, seen=seen, given_up={**kept.given_up, **given_up})
+            self.core.log.leave_off()
             self.core.tell(f"promoted at TXID {wanted.txid} in epoch {wanted.epoch}")
         self.core.reply(wanted.who, 200, state=self.core.program.state, txid=wanted.txid, epoch=wanted.epoch)
         self.leave()
+        # Who waits for the log or the folder waits for nothing now.
+        self.again("behind")
+        self.again("folder_unreadable")
 
     # ---- Refusals.
 
@@ -170,8 +187,7 @@ class Promotions:
         if may_come:
             self.aside.append((wanted, code))
         else:
-            self.core.refusals[code] += 1
-            self.core.reply(wanted.who, status, code=code, txid=self.core.log.reached.txid, **more)
+            self.core.refuse(wanted.who, status, code, txid=self.core.log.reached.txid, **more)
         self.leave()
 
     def strike_out(self):
@@ -197,6 +213,7 @@ class Promotions:
 
     def tick(self):
         """Refuses what waited too long for the disk, the folder or the log."""
+        self.look_hangs()
         if self.current is not None and self.stage != "sent" and self.core.now > self.current.until:
             self.refuse(503, "late")
         for wanted in [it for it in self.queue if self.core.now > it.until]:
@@ -209,5 +226,4 @@ class Promotions:
             self.answer_late(wanted, 409, code)
 
     def answer_late(self, wanted, status, code):
-        self.core.refusals[code] += 1
-        self.core.reply(wanted.who, status, code=code, txid=self.core.log.reached.txid)
+        self.core.refuse(wanted.who, status, code, txid=self.core.log.reached.txid)

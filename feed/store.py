@@ -3,6 +3,7 @@
 A file is written under another name, made safe on the disk, and then gets its own. The sum comes before its image, as
 `fsimage_T.sha256`, which `sha256sum -c` reads.
 """
+import errno
 import fcntl
 import hashlib
 import json
@@ -30,7 +31,10 @@ class Disk:
         os.makedirs(path, exist_ok=True)
         self.descriptor = os.open(path, os.O_RDONLY | os.O_DIRECTORY)
         # It ends with this process, however that ends.
-        fcntl.flock(self.descriptor, fcntl.LOCK_EX | fcntl.LOCK_NB)
+        try:
+            fcntl.flock(self.descriptor, fcntl.LOCK_EX | fcntl.LOCK_NB)
+        except BlockingIOError:
+            raise BlockingIOError(errno.EAGAIN, "another feeder has this folder", path) from None
 
     def place(self, name):
         return os.path.join(self.path, name)

@@ -12,7 +12,8 @@ class Cluster:
         self.ever = self.ever_shown = self.most = txid
         self.sure = min(self.sure, txid)
         self.history += 1
-        shown = self.shown if self.sent_looked >= min(then for _, then in self.sent) else {}
+        # What grew while the program was asked is another file than the one that was given up.
+        shown = self.sent_shown if self.sent_looked >= min(then for _, then in self.sent) else {}
         given = dict(self.given_up)
         self.is_unsummed = True
         self.given_names = self.given_names | self.segments.files.keys()

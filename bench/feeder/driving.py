@@ -99,6 +99,8 @@ class Feed:
 
     # Another feeder than that of this repository, and other surroundings.
     program_of_feed = environment = None
+    # How long it may take until it prints its address.
+    start_seconds = SECONDS
 
     def __init__(self, place, *arguments):
         self.place, self.child = place, None
@@ -108,7 +110,7 @@ class Feed:
         self.process = subprocess.Popen(command, stdout=subprocess.PIPE, stderr=self.errors, text=True, env=self.environment)
         place.running.append(self)
         # A feed that says nothing is ended, and then its output ends.
-        timer = threading.Timer(SECONDS, self.process.kill)
+        timer = threading.Timer(self.start_seconds, self.process.kill)
         timer.start()
         self.address = self.process.stdout.readline().strip()
         timer.cancel()

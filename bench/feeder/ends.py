@@ -24,6 +24,7 @@ from driving import SECONDS, Failed, Feed, Place, Tally, until
 from hostile import check_bodies, check_callers
 from kills import check_kills
 from logs import FIRST_ID, directories, edit, files, full_report, lines_of, name_of, report, segment
+from trouble import check_address, check_begun, check_crowds, check_doubt, check_entrants, check_flips, check_hangs, check_killed_start, check_told_faults
 
 
 def check_following(tally, place):
@@ -69,6 +70,7 @@ def check_gap(tally, feed):
     """A segment behind a gap is known and not followed."""
     status = until("it is seen", lambda: (found := feed.status())["known"] == 33 and found)
     feed.tells("TXID 20 is next and is not there")
+    tally.contains("the metric says why it waits", feed.ask("GET", "/metrics")[1], '\nnn_standby_waits{why="missing"} 1\n')
     tally.same("a segment behind a gap waits", (status["txid"], status["known"], status["lag"]), (19, 33, 14))
     tally.same("no promotion behind a gap", feed.promote(19), (409, "edits_above"))
     tally.same("it is a standby", feed.status()["state"], "standby")
@@ -84,9 +86,19 @@ def check_promotion(tally, feed):
     tally.same("no report behind the promotion", feed.report(report(1, 0)), (409, 0, [53]))
 
 
+def check_metrics(tally, figures):
+    """Prometheus' own check of what it is shown."""
+    if not shutil.which("promtool"):
+        print("there is no promtool, and the metrics were not checked by it")
+        return
+    done = subprocess.run(["promtool", "check", "metrics"], input=figures, capture_output=True, text=True)
+    tally.same("promtool finds nothing", (done.returncode, done.stdout, done.stderr), (0, "", ""))
+
+
 def check_shown(tally, feed):
     """The metrics and the page."""
     figures = feed.ask("GET", "/metrics")[1]
+    check_metrics(tally, figures)
     for line in ("lag_transactions 0", "held_items 1", "missing 2", "safe_mode 1", "txid 33", "datanodes 3"):
         tally.contains(f"the metric {line}", figures, f"\nnn_standby_{line}\n")
     page = feed.ask("GET", "/")[1]
@@ -455,6 +467,7 @@ def check_token(tally, place):
     tally.same("who showed it may look", (status, "<td>7, of 7 that were seen</td>" in page), (200, True))
     promotion = json.dumps({"txid": 7})
     tally.same("and promote nobody", ask("POST", "/promote", promotion, Cookie=cookie, Content_Type="application/json")[0], 401)
+    check_entrants(tally, port, token)
     told = ask("POST", "/promote", promotion, Authorization=f"Bearer {token}", Content_Type="application/json")
     tally.same("a promotion with the token", told[0], 200)
 
@@ -483,11 +496,15 @@ def check_epochs(tally, place):
     feed = Feed(place)
     feed.reaches(14)
     tally.same("nor over a restart", (feed.promote(14, epoch=1), feed.status()["known"]), ((409, "edits_above"), 21))
+    tally.holds("it knows since when it is behind", until("a tick", lambda: feed.status()["seconds"]["behind"]))
     tally.same("in a lower epoch", feed.promote(14), (409, "late_epoch"))
     place.put_segment(files(15, 2, 1))
     os.rename(os.path.join(place.edits, name_of(15, 21)), os.path.join(place.edits, name_of(16, 21)))
     status = json.loads(feed.ask("POST", "/promote", json.dumps({"txid": 14, "epoch": 2, "lost": True}))[1])
     tally.same("what is above is given up", (status["state"], status["txid"]), ("active", 14))
+    metrics = feed.ask("GET", "/metrics")[1]
+    shown = [f"\nnn_standby_{name} 0\n" in metrics for name in ("lag_seconds", 'waits{why="missing"}', 'waits{why="given_up"}')]
+    tally.same("it waits for nothing", shown, [True] * 3)
     tally.same("a greater epoch is named", feed.ask("POST", "/epoch", json.dumps({"epoch": 3}))[0], 200)
     tally.same("a deposed service ends with 3", feed.ended(), 3)
     feed = Feed(place)
@@ -522,6 +539,7 @@ def check_arguments(tally, place):
     shutil.rmtree(place.edits)
     feed = Feed(place)
     feed.tells("the folder can't be read: No such file or directory")
+    tally.contains("the page shows it", feed.ask("GET", "/")[1], "it can&#x27;t be read: No such file or directory</td>")
     feed.stop()
     os.makedirs(place.edits)
     feed = Feed(place, "--min", "0")
@@ -533,6 +551,14 @@ LIMIT_SECONDS = 300
 
 PARTS = [
     check_arguments,
+    check_begun,
+    check_address,
+    check_killed_start,
+    check_flips,
+    check_hangs,
+    check_doubt,
+    check_told_faults,
+    check_crowds,
     check_token,
     check_epochs,
     check_hang,

@@ -143,8 +143,10 @@ def check_callers(tally, place):
     place.put_segment(files(1, 0, 1))
     feed = Feed(place)
     feed.reaches(7)
+    until("it is healthy", lambda: feed.ask("GET", "/health")[0] == 200)
     check_hosts(tally, feed)
     check_promotions(tally, feed)
+    check_heads(tally, feed)
     tally.same("a page of another site", feed.ask("GET", "/", Sec_Fetch_Site="cross-site")[0], 403)
     tally.same("no such path", feed.ask("GET", "/../etc/passwd")[0], 404)
     tally.same("a question before another method", feed.ask("OPTIONS", "/promote")[0], 405)
@@ -173,6 +175,35 @@ def check_hosts(tally, feed):
     ):
         lines = "".join(f"Host: {host}\r\n" for host in hosts)
         tally.contains(f"Host: {name}", feed.raw(f"GET /health HTTP/1.1\r\n{lines}\r\n".encode()), f"HTTP/1.1 {code} ")
+
+
+def check_heads(tally, feed):
+    """Heads that are none, or that carry more than one request may."""
+    host = f"Host: 127.0.0.1:{feed.port}\r\n"
+    promotion = f"POST /promote HTTP/1.1\r\n{host}Content-Type: application/json\r\nContent-Length: 10\r\n\r\n" + '{"txid":7}'
+    for name, text, code in (
+        ("HTTP/1.0", f"GET /health HTTP/1.0\r\n{host}\r\n", 200),
+        ("HTTP/0.9", "GET /health\r\n\r\n", 400),
+        ("HTTP/2", "PRI * HTTP/2.0\r\n\r\n", 400),
+        ("a method in small letters", f"get /health HTTP/1.1\r\n{host}\r\n", 400),
+        ("a whole address", f"GET http://127.0.0.1:{feed.port}/health HTTP/1.1\r\n{host}\r\n", 400),
+        ("a path with a blank", f"GET /health x HTTP/1.1\r\n{host}\r\n", 400),
+        ("101 headers", f"GET /health HTTP/1.1\r\n{host}" + "A: b\r\n" * 100 + "\r\n", 431),
+        ("a header of 70,000 bytes", f"GET /health HTTP/1.1\r\n{host}A: {'b' * 70_000}\r\n\r\n", 431),
+        ("a header that goes on", f"GET /health HTTP/1.1\r\n{host}A: b\r\n c\r\n\r\n", 400),
+        ("a header without a colon", f"GET /health HTTP/1.1\r\n{host}A\r\n\r\n", 400),
+        ("a blank before a colon", f"GET /health HTTP/1.1\r\n{host}A : b\r\n\r\n", 400),
+        ("a zero byte", f"GET /health HTTP/1.1\r\n{host}A: \0\r\n\r\n", 400),
+        ("lines without their first half", f"GET /health HTTP/1.1\nHost: 127.0.0.1:{feed.port}\n\r\n\r\n", 400),
+        ("a length with a sign", promotion.replace("/promote", "/report").replace("Length: ", "Length: +"), 411),
+        ("a promotion at the reports' door", promotion, 404),
+    ):
+        tally.contains(f"a head: {name}", feed.raw(text.encode()), f"HTTP/1.1 {code} ")
+    with socket.create_connection(("127.0.0.1", feed.port), SECONDS) as connection:
+        connection.sendall(f"GET /health HTTP/1.1\r\n{host}\r\n{promotion}".encode())
+        answers = connection.makefile("rb")
+        got = [answer_of(answers)[:13] for _ in range(2)]
+        tally.same("a promotion behind a question", got, [b"HTTP/1.1 200 ", b"HTTP/1.1 404 "])
 
 
 def check_promotions(tally, feed):
@@ -214,6 +245,10 @@ def check_crowd(tally, feed):
     idle = [socket.create_connection(("127.0.0.1", feed.port), SECONDS) for _ in range(IDLE)]
     try:
         tally.same(f"{IDLE} connections that say nothing take no place", feed.report(report(1, 0))[0], 200)
+        ask = f"GET /health HTTP/1.1\r\nHost: 127.0.0.1:{feed.port}\r\n\r\n".encode()
+        got = {asked_on(connection, ask) for connection in idle}
+        tally.same("each of them asks, and stays", got, {b"HTTP/1.1 200 OK\r\n"})
+        tally.same("and they take none then", (feed.report(report(1, 0))[0], feed.promote(3)), (200, (409, "ahead")))
     finally:
         for connection in idle:
             connection.close()
@@ -230,6 +265,11 @@ def check_kept_connection(tally, feed):
             connection.sendall(given)
             got = [answer_of(answers) for _ in range(count)]
             tally.same(f"{count} answers on a connection that is kept", got, [b"HTTP/1.1 200 OK\r\n"] * count)
+
+
+def asked_on(connection, ask):
+    connection.sendall(ask)
+    return answer_of(connection.makefile("rb"))
 
 
 def answer_of(answers):

@@ -47,7 +47,7 @@ class Laws:
                 raise Broken(f"DataNode {dn} is gone, and was heard {self.now - self.last_asked[dn]:.0f} seconds ago")
         for words in (row.split() for row in text.splitlines() if row.startswith("promote ")):
             self.sent = self.matching(int(words[3]), words[4:] == ["lost"])
-            self.sent_seen, self.sent_looked = max(self.ever, self.ever_shown), self.looked_at
+            self.sent_seen, self.sent_looked, self.sent_shown = max(self.ever, self.ever_shown), self.looked_at, self.shown
             if not self.sent:
                 raise Broken("a promotion is sent late, or nobody asked for it")
 
@@ -94,8 +94,8 @@ class Laws:
             self.last_asked[body["dn"]] = self.now
         if kind == "promote":
             self.judge_promotion(status, answer, body, then)
-        elif kind == "epoch" and status == 200:
-            self.epoch = max(self.epoch, body["epoch"])
+        elif kind == "epoch":
+            self.judge_epoch(status, body, then)
         elif kind == "health":
             self.judge_health(status, answer)
         elif kind in ("report", "heartbeat") and "full_report" in answer:
@@ -110,6 +110,12 @@ class Laws:
             self.epoch = max(self.epoch, body["epoch"])
         if self.now - then > max(body["within"], 5) + 3 * SLACK + self.paused_since(then) and self.has_answered_since(then):
             raise Broken(f"a promotion waits {self.now - then:.0f} s for its answer")
+
+    def judge_epoch(self, status, body, then):
+        if status == 200:
+            self.epoch = max(self.epoch, body["epoch"])
+        if self.now - then > 5 + 3 * SLACK + self.paused_since(then) and self.has_answered_since(then):
+            raise Broken(f"an epoch waits {self.now - then:.0f} s for its answer")
 
     def has_answered_since(self, then):
         return self.hung_since is None and (self.hung_at is None or self.hung_at < then)
@@ -210,7 +216,7 @@ class Laws:
             # One that may have been given up is left to whoever fenced.
             return
         if below and not self.is_spoiled:
-            raise Broken(f"it stands at {top}, and {max(below)} is there: {self.core.log.waits}")
+            raise Broken(f"it stands at {top}, and {max(below)} is there: {self.core.log.waits and self.core.log.waits.text}")
 
     def judge_names(self):
         """The names are those of the log up to where it is."""

@@ -23,6 +23,9 @@ class Session(Laws, Cluster):
         self.program_path = program
         self.random = random.Random(seed)
         self.trouble = Trouble(seed + 1)
+        # What happens at just the moment that a fault needs. It is asked apart, so that it moves nothing else.
+        self.moments = random.Random(seed + 2)
+        self.grows_at_listing, self.goes_on_at = False, None
         # In some sessions less goes wrong, and nobody asks but a few.
         self.is_quiet = seed % 5 == 0
         self.now = 0.0
@@ -187,11 +190,19 @@ class Session(Laws, Cluster):
             if self.random.random() < 0.2:
                 self.lanes["list"].insert(0, action)
                 return
+        if self.grows_at_listing:
+            # In the second in which the folder was listed.
+            self.grows_at_listing = False
+            self.grow()
         _, found, shown, listed_at, _ = action
+        if found[1] is not None and self.lanes["program"] and "promote" in [kind for kind, *_ in self.asked.values()]:
+            self.hang_for_a_moment()
         if found[1] is None:
             self.shown, self.looked_at = shown, listed_at
-            self.ever = max(self.ever, self.greatest(shown, self.segments.sums_failed or self.is_unsummed))
-            self.ever_shown = max(self.ever_shown, self.greatest(shown))
+            if self.core.program.state == "standby":
+                # Behind a promotion the folder is followed no more, and a listing that comes late is of another log.
+                self.ever = max(self.ever, self.greatest(shown, self.segments.sums_failed or self.is_unsummed))
+                self.ever_shown = max(self.ever_shown, self.greatest(shown))
             self.most = max(self.most, self.greatest(shown), *(int(name[17:36]) for name in self.segments.unread), 0)
         self.core.looked(*found)
 
@@ -222,6 +233,7 @@ class Session(Laws, Cluster):
                 raise Broken("a DataNode is gone that asked every three seconds")
             if self.random.random() < 0.2:
                 self.lanes["program"].append(("send", data, number, file, told))
+                self.ask_while_gone(data)
                 return
         told, _, last = told[:-1].rpartition(b"\n")
         if last != b"done %d" % number:
@@ -231,6 +243,18 @@ class Session(Laws, Cluster):
             fault, told = self.give(file, told + b"\n"), b""
         self.core.moved(self.now)
         self.core.answered(told, fault)
+
+    def hang_for_a_moment(self):
+        """Until the folder can be looked at again."""
+        if self.hung_since is None and self.moments.random() < 0.7:
+            self.hang()
+            self.goes_on_at = self.now + 2
+
+    def ask_while_gone(self, data):
+        """One that is called gone asks before the program's answer has come."""
+        for row in data.decode().splitlines():
+            if row.startswith("gone ") and self.moments.random() < 0.7:
+                self.request("heartbeat", dn=int(row.split()[1]))
 
     def give(self, name, image):
         """A long answer goes to its file."""
@@ -276,6 +300,9 @@ class Session(Laws, Cluster):
     def step(self):
         length = self.random.choice([0.2, 1, 1, 1, 2.5])
         self.now += length
+        if self.goes_on_at is not None and self.now >= self.goes_on_at:
+            self.goes_on_at = None
+            self.go_on()
         chosen = self.random.random()
         if self.is_ended:
             self.start()
@@ -407,8 +434,12 @@ class Session(Laws, Cluster):
                 self.start()
                 self.trouble.is_on = False
             self.beat()
+            if at == 0 and self.moments.random() < 0.3:
+                self.grow()
+                self.grows_at_listing = True
             self.tick()
             self.deliver()
+            self.ripen()
             if at == KNOWN_WITHIN and not self.is_ended:
                 is_followed = self.is_in_order() and not self.core.log.doubts
                 self.ever = max(self.ever, is_followed * self.greatest(self.visible(), True))

@@ -6,7 +6,7 @@ from types import ModuleType, SimpleNamespace
 
 FEED = os.path.join(os.path.dirname(os.path.realpath(__file__)), "..", "..", "feed")
 # In the order in which they import each other.
-NAMES = ("place", "names", "state", "program", "following", "segments", "folder", "store", "keeping", "datanodes", "promotions", "figures", "core")
+NAMES = ("place", "names", "state", "program", "following", "segments", "folder", "store", "promotions", "keeping", "datanodes", "figures", "core")
 
 
 def source(name):

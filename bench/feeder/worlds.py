@@ -105,10 +105,11 @@ class Segments:
     def head(self, path):
         try:
             self.trouble.fail(0.1)
+            return self.file(os.path.basename(path)).data[:65_536]
         except OSError:
+            # Gone since the listing, too: it may have its other name by now.
             self.unread.add(os.path.basename(path))
             raise
-        return self.file(os.path.basename(path)).data[:65_536]
 
     def opened(self, path):
         self.trouble.fail(0.1)
@@ -117,7 +118,7 @@ class Segments:
         key = (found.st_ino, found.st_size, found.st_mtime_ns, found.st_ctime_ns)
         return key, len(data), FailingFile(data, self.trouble)
 
-    def sum(self, path):
+    def sum(self, path, _moved):
         import hashlib
 
         self.sums_failed |= self.trouble.chance(0.1)

@@ -66,8 +66,9 @@ def libraries():
 
 
 def files():
-    """The sums of the program and of its object."""
-    return {name: sum_of(read(os.path.join(ROOT, name))) for name in (PROGRAM, OBJECT)}
+    """The sums of the program and of its object. Where `rt ci` kept a program of an earlier run, it leaves no object."""
+    places = [it for it in (PROGRAM, OBJECT) if it == PROGRAM or os.path.exists(os.path.join(ROOT, it))]
+    return {name: sum_of(read(os.path.join(ROOT, name))) for name in places}
 
 
 class GateLog:

@@ -47,7 +47,7 @@ Depends: libc6 (>= {glibc}), python3 (>= 3.8)
 Section: admin
 Priority: optional
 Description: verified core of the standby NameNode of HDFS
- Audits a cluster's checkpoints, judges its replicas, and follows its edit log.
+ Audits a cluster's checkpoints, judges its replicas, follows its edit log, and keeps a standby in service.
 """
 
 

@@ -81,7 +81,13 @@ class Swaps:
     def back(self):
         self.git("checkout", "--quiet", "--", "releases")
 
+    def without(self):
+        """The clone has no release, not even the one that is in the repository."""
+        shutil.rmtree(os.path.join(self.top, "releases"), ignore_errors=True)
+        self.commit()
+
     def run(self):
+        self.without()
         self.says("no release", 0, "release: there is none in releases/", "--quick")
         self.make()
         (path,) = glob.glob(os.path.join(self.top, "releases", "*.tar.gz"))

@@ -1,7 +1,7 @@
 //! A scenario is followed while its lines come: each is checked and followed at once, and none is kept.
 ghost use Rattle.std.specs.Prelude.{◌≡◌, ◌≤◌, ◌<◌, ◌^◌, ◌+◌, ℕ, List, ◌++◌, ◌∷◌, [], length, true, Ok, IfOk, OnOk};
 ghost use Rattle.nn_edits.specs.Reading.{edit_of_line};
-ghost use Rattle.nn_segment.specs.Lines.{is_unbroken};
+ghost use Rattle.nn_bytes.specs.Pieces.{is_unbroken};
 ghost use Rattle.nn_scenario.specs.Chunks.{IsReadBy};
 ghost use Rattle.nn_scenario.specs.Reading.{Reading, nothing_read, with_edit_line, with_report_line};
 ghost use Rattle.nn_model.specs.Lanes.{no_messages};

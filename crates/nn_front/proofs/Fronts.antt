@@ -7,14 +7,14 @@ use Rattle.std.proofs.lemmas.Bool.{and_parts, not-true, cases_lt}
 use Rattle.std.proofs.lemmas.Bool.Decides.{Decides-eqb}
 use Rattle.std.proofs.lemmas.List.{drop-drop, take_all}
 use Rattle.nn_bytes.specs.Lines.{line_feed}
+use Rattle.nn_bytes.specs.Pieces.{is_unbroken}
+use Rattle.nn_bytes.proofs.PieceLemmas.{unbroken_both}
 use Rattle.nn_model.specs.Namespace.{Namespace}
-use Rattle.nn_image.specs.Lines.{no_feed}
 use Rattle.nn_image.specs.Loading.{Loading, at_header, loaded_from, is_first, ends_with, TakesLine}
 use Rattle.nn_image.specs.Reading.{is_end_line, pieces_of, read_image}
 use Rattle.nn_image.specs.declared.fault.ImageFault.{ImageFault}
 use Rattle.nn_image.proofs.LoadedLines.{only_piece, piece}
 use Rattle.nn_image.proofs.Round.{some_piece}
-use Rattle.nn_segment.specs.Lines.{is_unbroken}
 use Rattle.nn_front.specs.Cut.{Cut, behind_mark, bytes_of, image_cut_from, divided, from_header, image_read, mark, max_passed, onto, passed_over, rest_of}
 use Rattle.nn_front.specs.Front.{ArePassed, Front, IsLoaded, IsPassing, IsInImage, IsBehind, IsAtPlace, IsFront, IsTooMuch, LineEnded, begun, kept, kept_at, passed_at, room}
 use Rattle.nn_front.specs.declared.front.Place.{Place}
@@ -152,10 +152,6 @@ onto_ended image line cut j =
 
 -- ---- bytes come
 
-no_feed_both : (a b : List ℕ) → no_feed a ≡ true → no_feed b ≡ true → no_feed (a ++ b) ≡ true
-no_feed_both [] b ha hb = hb
-no_feed_both (x ∷ a) b ha hb = let both = and_parts (not (eqb x line_feed)) (no_feed a) ha in rw (both.0, no_feed_both a b both.1 hb) refl
-
 bytes_come : (place : Place) (text bytes line : List ℕ) (l : Loading) (n : ℕ) (rest : List ℕ) → place ≢ Start → place ≢ Behind → is_unbroken bytes ≡ true → IsAtPlace place text line l n rest
     → IsAtPlace place (text ++ bytes) (kept_at place bytes line) l (passed_at place (length bytes) n) rest
 bytes_come Start text bytes line l n rest started before plain h = absurd (started refl)
@@ -173,7 +169,7 @@ bytes_come Image text bytes line l n rest started before plain h = record {
   before = λ more. ap passed_over (append_assoc text bytes more) ∙ h.before (bytes ++ more);
   lines = h.lines;
   loaded = h.loaded;
-  unbroken = no_feed_both line bytes h.unbroken plain;
+  unbroken = unbroken_both line bytes h.unbroken plain;
   cut = λ more.
       ap divided (append_assoc text bytes more) ∙ h.cut (bytes ++ more) ∙ ap (λ c. Some (onto (h.lines ++ line) c)) (same_line (is_first l) line bytes more plain)
       ∙ ap Some (onto_line h.lines line bytes (image_cut_from (is_first l) (line ++ bytes) more));
@@ -196,7 +192,7 @@ unfolding read_image
 none_loaded more = refl
 
 -- one line more is loaded
-one_more : (lines line : List ℕ) (l m : Loading) → no_feed line ≡ true → TakesLine l m line → IsLoaded lines l → IsLoaded ((lines ++ line) ++ line_feed ∷ []) m
+one_more : (lines line : List ℕ) (l m : Loading) → is_unbroken line ≡ true → TakesLine l m line → IsLoaded lines l → IsLoaded ((lines ++ line) ++ line_feed ∷ []) m
 one_more lines line l m unbroken takes loaded more =
     ap read_image (append_assoc (lines ++ line) (line_feed ∷ []) more ∙ append_assoc lines line (line_feed ∷ more)) ∙ loaded (line ++ line_feed ∷ more) ∙ ap (loaded_from l) (piece line more unbroken) ∙ turn (pieces_of more) (some_piece more)
   where
@@ -352,7 +348,7 @@ first_of Start b text line l n rest is h = by (eqb b 123) refl
           before = λ more. (λ j. passed_over ((h.0 j ++ is j ∷ []) ++ more)) ∙ no_bytes_before more ∙ sym h.4;
           lines = [];
           loaded = subst (IsLoaded []) (sym h.2) none_loaded;
-          unbroken = ap no_feed one;
+          unbroken = ap is_unbroken one;
           cut = λ more. (λ j. divided ((h.0 j ++ is j ∷ []) ++ more)) ∙ at_once more ∙ (λ j. Some (onto (sym one j) (image_cut_from (is_first (sym h.2 j)) (sym one j) more)));
         }
     by false e = as_passing (eqb b line_feed) e refl

@@ -2,7 +2,7 @@
 use Rattle.std.specs.Prelude.{◌≡◌, ℕ, ◌<◌, ◌+◌, ◌-◌, ◌==◌, List, [], ◌∷◌, ◌++◌, take, min, length, true, false, Some, if◌then◌else◌}
 use Rattle.std.specs.Str.{bytes_eq}
 use Rattle.nn_bytes.specs.Lines.{line_feed}
-use Rattle.nn_image.specs.Lines.{no_feed}
+use Rattle.nn_bytes.specs.Pieces.{is_unbroken}
 use Rattle.nn_image.specs.Loading.{Loading, at_header, loaded_from, is_first, ends_with, TakesLine}
 use Rattle.nn_image.specs.Reading.{pieces_of, read_image}
 use Rattle.nn_front.specs.Cut.{behind_mark, image_cut_from, divided, from_header, mark, max_passed, onto, passed_over}
@@ -38,7 +38,7 @@ pub record IsInImage (text line : List ℕ) (l : Loading) (passed : ℕ) (rest :
   pub before : ArePassed text passed
   pub lines : List ℕ
   pub loaded : IsLoaded lines l
-  pub unbroken : no_feed line ≡ true
+  pub unbroken : is_unbroken line ≡ true
   pub cut : (more : List ℕ) → divided (text ++ more) ≡ Some (onto (lines ++ line) (image_cut_from (is_first l) line more))
 
 -- or behind the image

@@ -2,7 +2,7 @@
 ghost use Rattle.std.specs.Prelude.{◌≡◌, ◌≢◌, ◌≤◌, ◌<◌, ◌+◌, ◌++◌, [], List, ℕ, None, Some, true, drop, length, IfOk, IfSome, OnOk, IsErrOf};
 ghost use Rattle.std.specs.Str.{bytes_eq};
 ghost use Rattle.nn_image.specs.Loading.{is_first, ends_with, TakesLine};
-ghost use Rattle.nn_segment.specs.Lines.{is_unbroken};
+ghost use Rattle.nn_bytes.specs.Pieces.{is_unbroken};
 ghost use Rattle.nn_front.specs.Cut.{divided, image_read, mark, max_passed, passed_over, rest_of};
 ghost use Rattle.nn_front.specs.Front.{IsFront, IsTooMuch, LineEnded, begun, kept, passed_at, room};
 

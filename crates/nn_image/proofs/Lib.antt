@@ -5,7 +5,6 @@ pub mod Rows
 pub mod Kept
 pub mod Round
 pub mod ArrayLemmas
-pub mod LineLemmas
 pub mod LoadedLines
 pub mod Order
 pub mod Writing

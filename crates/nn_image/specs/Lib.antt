@@ -5,7 +5,6 @@ pub mod Reading
 pub mod Outcome
 pub mod Lawful
 pub mod Header
-pub mod Lines
 pub mod Image
 pub mod Loading
 pub mod Saving

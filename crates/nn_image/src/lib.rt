@@ -5,7 +5,6 @@ mod arrays;
 mod fault;
 mod header;
 mod law;
-mod lines;
 mod loading;
 mod restoring;
 mod rewriting;

@@ -1,5 +1,5 @@
 -- Bytes that are cut into lines as they come.
-use Rattle.std.proofs.Common.{◌≡◌, ◌⊎◌, inl, inr, ℕ, zero, suc, ◌+◌, ◌-◌, ◌≤◌, true, List, [], ◌∷◌, ◌++◌, ◌&&◌, length, take, drop, refl, sym, ap, subst, ◌∙◌, arith, append_assoc, append-nil}
+use Rattle.std.proofs.Common.{◌≡◌, ◌⊎◌, inl, inr, ℕ, zero, suc, ◌+◌, ◌-◌, ◌<◌, ◌≤◌, true, List, [], ◌∷◌, ◌++◌, ◌&&◌, length, take, drop, refl, sym, ap, subst, ◌∙◌, arith, append_assoc, append-nil}
 use Rattle.std.specs.List.{position_or_len}
 use Rattle.std.proofs.lemmas.List.{length-append, length-take, take_all}
 use Rattle.std.proofs.lemmas.List.Folds.{list_all-append}
@@ -132,12 +132,14 @@ module _ (buf known : List ℕ) (s e : ℕ) (deref : known ≡ buf) (at : ℕ) (
 -- the line that ended came in one read
 pub read_line : (most : ℕ) (bytes : List ℕ) (lines : List (List ℕ)) (start end : ℕ) (text : List ℕ) (old new : Lines) → 1 ≤ most → length old.torn.kept ≡ 0 → is_unbroken text ≡ true → ahead old ≡ text ++ line_feed ∷ ahead new
     → new.torn ≡ old.torn → line_text new (place.Read start end) ≡ text → HasCome most bytes lines old → HasEnded most bytes lines (place.Read start end) new
+unfolding one_ends
 read_line most bytes lines start end text old new some none whole cut same there h =
     let empty : h.torn ≡ [] = none_torn most h.torn old.torn some h.kept none in
     let line : h.torn ++ text ≡ text = ap (λ t. t ++ text) empty in
     record {
       line = h.torn ++ text;
       come = one_ends most bytes lines text old new whole cut (subst (KeepsFirst most []) (sym same) (subst (λ t. KeepsFirst most t old.torn) empty h.kept)) h;
+      begins = refl;
       unbroken = unbroken_both h.torn text h.unbroken whole;
       text = record { is = inl (there ∙ sym line) };
     }
@@ -145,9 +147,11 @@ read_line most bytes lines start end text old new some none whole cut same there
 -- or in more than one
 pub kept_line : (most : ℕ) (bytes : List ℕ) (lines : List (List ℕ)) (text : List ℕ) (old new : Lines) → is_unbroken text ≡ true → ahead old ≡ text ++ line_feed ∷ ahead new → new.torn ≡ no_bytes
     → ((torn : List ℕ) → KeepsFirst most torn old.torn → KeepsFirst most (torn ++ text) new.last) → HasCome most bytes lines old → HasEnded most bytes lines place.Kept new
+unfolding one_ends
 kept_line most bytes lines text old new whole cut none keeps h = record {
   line = h.torn ++ text;
   come = one_ends most bytes lines text old new whole cut (subst (KeepsFirst most []) (sym none) (keeps_none most)) h;
+  begins = refl;
   unbroken = unbroken_both h.torn text h.unbroken whole;
   text = kept_text most (h.torn ++ text) new.last (keeps h.torn h.kept);
 }
@@ -186,13 +190,13 @@ come_cut most bytes lines l none h = (
 
 -- ---- So much more was read.
 
-none_came : (r : Reader) → Came r r []
+pub none_came : (r : Reader) → Came r r []
 none_came r = record { got = Consumes-nil r.left; counted = omega arith; unfailed = refl }
 
 pub none_read : (most : ℕ) (r : Reader) (l : Lines) → ReadOn most r r l l
 none_read most r l = record { bytes = []; came = none_came r; goes_on = λ earlier lines h. subst (λ b. HasCome most b lines l) (sym (append-nil earlier)) h }
 
-come_both : (a b c : Reader) (some more : List ℕ) → Came a b some → Came b c more → Came a c (some ++ more)
+pub come_both : (a b c : Reader) (some more : List ℕ) → Came a b some → Came b c more → Came a c (some ++ more)
 come_both a b c some more x y = record {
   got = Consumes-trans a.left b.left c.left some more x.got y.got;
   counted = omega (arith, length-append some more, x.counted, y.counted);
@@ -221,3 +225,29 @@ one_read most a b l old new p so_far ends = record {
 -- and nothing was ahead before
 pub first_read : (most : ℕ) (a b : Reader) (old new : Lines) → ahead old ≡ [] → Refilled a b old new → ReadOn most a b old new
 first_read most a b old new none r = record { bytes = r.bytes; came = r.came; goes_on = λ earlier lines h. comes_ahead most earlier r.bytes lines old new none r.are r.torn h }
+
+-- ---- Where a line may be as long as all bytes, it is kept whole.
+
+same_length : (lines : List (List ℕ)) (torn more bytes : List ℕ) → bytes ≡ joined_lines lines ++ (torn ++ more) → length bytes ≡ length (joined_lines lines) + (length torn + length more)
+same_length lines torn more bytes is = ap length is ∙ length-append (joined_lines lines) (torn ++ more) ∙ ap (λ n. length (joined_lines lines) + n) (length-append torn more)
+
+pub whole_torn : (most : ℕ) (bytes : List ℕ) (lines : List (List ℕ)) (l : Lines) (h : HasCome most bytes lines l) → length bytes ≤ most → l.torn.kept ≡ h.torn
+whole_torn most bytes lines l h within = h.kept.kept ∙ take_all most h.torn (omega (arith, within, same_length lines h.torn (ahead l) bytes h.joined))
+
+-- a line is shorter than all of them
+pub line_within : (most : ℕ) (bytes : List ℕ) (lines : List (List ℕ)) (p : Place) (l : Lines) (h : HasEnded most bytes lines p l) → length h.line < length bytes
+line_within most bytes lines p l h =
+    omega (
+      arith,
+      same_length (lines ++ h.line ∷ []) h.come.torn (ahead l) bytes h.come.joined,
+      ap length (joined_more lines h.line),
+      length-append (joined_lines lines) (h.line ++ line_feed ∷ []),
+      length-append h.line (line_feed ∷ []),
+    )
+
+pub whole_line : (most : ℕ) (bytes : List ℕ) (lines : List (List ℕ)) (p : Place) (l : Lines) (h : HasEnded most bytes lines p l) → length bytes ≤ most → line_text l p ≡ h.line
+whole_line most bytes lines p l h within = at h.text.is
+  where
+    at : (line_text l p ≡ h.line) ⊎ ((most ≤ length h.line) × (line_text l p ≡ take most h.line) × (l.last.blank ≡ is_blank h.line)) → line_text l p ≡ h.line
+    at (inl same) = same
+    at (inr long) = absurd (omega (arith, long.0, within, line_within most bytes lines p l h))

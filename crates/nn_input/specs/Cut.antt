@@ -59,10 +59,11 @@ pub record HasCome (most : ℕ) (bytes : List ℕ) (lines : List (List ℕ)) (l 
 pub record IsTextOf (most : ℕ) (line text : List ℕ) (blank : Bool) : Type 0 where
   pub is : (text ≡ line) ⊎ ((most ≤ length line) × (text ≡ take most line) × (blank ≡ is_blank line))
 
--- one line more has ended, and this is its text
+-- one line more has ended, and this is its text. The next one has not begun
 pub record HasEnded (most : ℕ) (bytes : List ℕ) (lines : List (List ℕ)) (p : Place) (l : Lines) : Type 0 where
   pub line : List ℕ
   pub come : HasCome most bytes (lines ++ line ∷ []) l
+  pub begins : come.torn ≡ []
   pub unbroken : is_unbroken line ≡ true
   pub text : IsTextOf most line (line_text l p) l.last.blank
 
@@ -96,6 +97,6 @@ pub record ReadOn (most : ℕ) (before after : Reader) (old new : Lines) : Type 
   pub goes_on : (earlier : List ℕ) (lines : List (List ℕ)) → HasCome most earlier lines old → HasCome most (earlier ++ bytes) lines new
 
 -- the fault tells of a failed read just where one was noted
-abbrev pub IsToldOf : LinesFault → Bool → Bool → Type 0
-IsToldOf ReadFailed before after = after ≡ true
-IsToldOf OutOfMemory before after = after ≡ before
+abbrev pub AsNoted : LinesFault → Bool → Bool → Type 0
+AsNoted ReadFailed before after = after ≡ true
+AsNoted OutOfMemory before after = after ≡ before

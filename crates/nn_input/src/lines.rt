@@ -1,7 +1,7 @@
 //! The lines of a reader, one after another.
 ghost use Rattle.std.specs.Prelude.{◌≡◌, ◌≤◌, ◌<◌, ◌+◌, ◌^◌, [], ◌∷◌, List, ℕ, false, length, IfOk, IfErr, IfSome, None, true};
 ghost use Rattle.std.specs.Io.KnownBytes.{IsAtEnd};
-ghost use Rattle.nn_input.specs.Cut.{HasCome, HasEnded, IsCutTo, IsThere, IsToldOf, NextEnded, ReadOn, Refilled, ahead, line_text};
+ghost use Rattle.nn_input.specs.Cut.{HasCome, HasEnded, IsCutTo, IsThere, AsNoted, NextEnded, ReadOn, Refilled, ahead, line_text};
 
 use crate::fault::LinesFault;
 use crate::torn::TornBytes;
@@ -129,7 +129,7 @@ impl Lines {
         ensures few { IfOk result (λ found. IfSome found (λ _. length (ahead self.new) ≤ 2 ^ 16)) }
         ensures end { IfOk result (λ found. found ≡ None → ReadOn most input.old input.new self.old self.new) }
         ensures whole { IfOk result (λ found. found ≡ None → IsAtEnd input.new.left × (ahead self.new ≡ [])) }
-        ensures told { IfErr result (λ fault. IsToldOf fault input.old.failed input.new.failed) }
+        ensures told { IfErr result (λ fault. AsNoted fault input.old.failed input.new.failed) }
     {
         'reads: loop {
             let Ok(found) = self.cut(most) else {

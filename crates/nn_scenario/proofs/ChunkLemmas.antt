@@ -7,38 +7,20 @@ use Rattle.std.proofs.lemmas.List.{take-append-drop}
 use Rattle.std.specs.List.{onto_first}
 use Rattle.std.proofs.lemmas.Bool.{and_from, and_parts, not-true}
 use Rattle.std.proofs.lemmas.List.Folds.{list_all-append}
-use Rattle.nn_bytes.specs.Lines.{line_feed}
+use Rattle.nn_bytes.specs.Lines.{is_blank, line_feed}
 use Rattle.nn_edits.specs.Reading.{either_of_line}
 use Rattle.nn_edits.specs.declared.fault.LineFault.{LineFault}
 use Rattle.nn_edits.specs.declared.fault.LineFault.TheVariants.{OutOfMemory}
-use Rattle.nn_segment.specs.Lines.{is_unbroken}
+use Rattle.nn_bytes.specs.Pieces.{is_unbroken, pieces}
+use Rattle.nn_bytes.proofs.PieceLemmas.{cut_first, one_piece, unbroken_both}
 use Rattle.nn_scenario.specs.Chunks.{Lines, KeepsText, IsRefusedLine, CameTo, HasCome, Hands, GoesOnAs, Takes, Refuses, IsReadBy, IsScenarioOf, follow, scenario_after, with_reading}
 use Rattle.nn_scenario.specs.Cut.{last_part}
-use Rattle.nn_scenario.specs.Scenario.{is_blank, lines_from, scenario_of, scenario_with, scenario_of_read}
+use Rattle.nn_scenario.specs.Scenario.{lines_from, scenario_of, scenario_with, scenario_of_read}
 use Rattle.nn_scenario.specs.Reading.{Reading, nothing_read, IsFollowed}
 use Rattle.nn_scenario.specs.declared.scenario.ScenarioFault.{ScenarioFault}
 use Rattle.nn_scenario.specs.declared.scenario.Scenario.{Scenario as Read}
 use Rattle.nn_scenario.proofs.LawfulLemmas.{has_messages, lawful_scenario}
-use Rattle.nn_scenario.proofs.LineLemmas.{no_more, pieces, refused, turn, whole_input}
-
--- ---- lines
-
-cut_first : (line more : List ℕ) → is_unbroken line ≡ true → pieces (line ++ line_feed ∷ more) ≡ line ∷ pieces more
-cut_first [] more whole = refl
-cut_first (b ∷ line) more whole =
-    let both = and_parts (not (eqb b line_feed)) (is_unbroken line) whole in
-    ap (λ t. cond t ([] ∷ pieces (line ++ line_feed ∷ more)) (onto_first b (pieces (line ++ line_feed ∷ more)))) (not-true (eqb b line_feed) both.0)
-    ∙ ap (onto_first b) (cut_first line more both.1)
-
-one_line : (line : List ℕ) → is_unbroken line ≡ true → pieces line ≡ line ∷ []
-one_line [] whole = refl
-one_line (b ∷ line) whole =
-    let both = and_parts (not (eqb b line_feed)) (is_unbroken line) whole in
-    ap (λ t. cond t ([] ∷ pieces line) (onto_first b (pieces line))) (not-true (eqb b line_feed) both.0)
-    ∙ ap (onto_first b) (one_line line both.1)
-
-pub unbroken_joined : (torn text : List ℕ) → is_unbroken torn ≡ true → is_unbroken text ≡ true → is_unbroken (torn ++ text) ≡ true
-unbroken_joined torn text u v = list_all-append (λ b. not (eqb b line_feed)) torn text ∙ and_from _ _ u v
+use Rattle.nn_scenario.proofs.LineLemmas.{no_more, refused, turn, whole_input}
 
 -- ---- a line ends
 
@@ -74,7 +56,7 @@ line_taken {S} has_read k s t n torn torn' line text b (Ok done) view u v joined
       y.1,
       λ more.
           ap (scenario_after (with_reading old x)) (append_assoc text (line_feed ∷ []) more)
-          ∙ line_ended (with_reading old x) text y.0 (unbroken_joined torn text u v) (subst (λ l. IsFollowed l x y.0) joined y.2) more
+          ∙ line_ended (with_reading old x) text y.0 (unbroken_both torn text u v) (subst (λ l. IsFollowed l x y.0) joined y.2) more
           ∙ ap (λ l. scenario_after (record { so_far = y.0; ended = n + 1; torn = l; bad = b }) more) (sym empty),
     ) in
     (ap (λ c. c.bad) view ∙ good, subst (λ c. Takes has_read (text ++ line_feed ∷ []) c new) view takes)
@@ -92,7 +74,7 @@ line_not_taken {S} has_read k s n torn line text b (Err e) view u v joined why =
     let why' : Refused (torn ++ text) (n + 1) e = subst (λ l. Refused l (n + 1) e) joined why in
     let refuses : Refuses has_read (text ++ line_feed ∷ []) old e = λ other first x h more.
     ap (scenario_after (with_reading old x)) (append_assoc text (line_feed ∷ []) more)
-    ∙ line_refused (with_reading old x) text e.fault (unbroken_joined torn text u v) why'.1 (why'.2 other) more
+    ∙ line_refused (with_reading old x) text e.fault (unbroken_both torn text u v) why'.1 (why'.2 other) more
     ∙ ap (λ l. Err (record { fault = e.fault; line = l })) (sym why'.0) in
     subst (λ c. Refuses has_read (text ++ line_feed ∷ []) c e) view refuses
 
@@ -183,7 +165,7 @@ last_of text c whole kept =
     ap scenario_of (sym (append-nil text))
     ∙ kept []
     ∙ ap (λ t. follow c.so_far (lines_from (c.ended + 1) (pieces t))) (append-nil c.torn)
-    ∙ ap (λ ls. follow c.so_far (lines_from (c.ended + 1) ls)) (one_line c.torn whole)
+    ∙ ap (λ ls. follow c.so_far (lines_from (c.ended + 1) ls)) (one_piece c.torn whole)
 
 last_line : (text : List ℕ) (c : Lines Reading) (next : Reading) → is_unbroken c.torn ≡ true → IsFollowed c.torn c.so_far next → KeepsText text c →
     scenario_of text ≡ Ok (scenario_with (next.parts ++ last_part next.in_hand) next.steps)

@@ -1,7 +1,6 @@
 -- A scenario whose bytes come in chunks.
-use Rattle.std.specs.Prelude.{◌≡◌, ◌≢◌, ◌==◌, ℕ, ◌+◌, List, [], ◌++◌, Option, None, Some, Result, Ok, Err, IfOk, IfErr}
-use Rattle.std.specs.List.{slice_split}
-use Rattle.nn_bytes.specs.Lines.{line_feed}
+use Rattle.std.specs.Prelude.{◌≡◌, ◌≢◌, ℕ, ◌+◌, List, [], ◌++◌, Option, None, Some, Result, Ok, Err, IfOk, IfErr}
+use Rattle.nn_bytes.specs.Pieces.{pieces}
 use Rattle.nn_edits.specs.declared.fault.LineFault.TheVariants.{OutOfMemory}
 use Rattle.nn_scenario.specs.Cut.{parts_from, last_part}
 use Rattle.nn_scenario.specs.Scenario.{ScenarioLine, Scenario, HasMessagesOf, IsLawfulScenario, edit_lines, lines_from, scenario_of, scenario_with, scenario_of_read, steps_from}
@@ -31,7 +30,7 @@ follow x (Err e) = Err e
 
 -- the scenario where no line was refused, and these bytes follow
 abbrev pub scenario_after : Lines Reading → List ℕ → Result Scenario ScenarioFault
-scenario_after c more = follow c.so_far (lines_from (c.ended + 1) (slice_split (λ b. b == line_feed) (c.torn ++ more)))
+scenario_after c more = follow c.so_far (lines_from (c.ended + 1) (pieces (c.torn ++ more)))
 
 -- of a text whose first bytes came, the rest is as good as the whole: with what is kept of them it is the same scenario
 abbrev pub KeepsText : List ℕ → Lines Reading → Type 0

@@ -12,7 +12,7 @@ mod step_list;
 mod steps;
 
 pub use checking::SegmentCheck;
-pub use lines::{LineSink, Lines, is_blank};
+pub use lines::{LineSink, Lines};
 pub use nn_types::limits::MAX_INPUT;
 pub use scenario::{Reading, Scenario, ScenarioFault, read_lines, scenario_of};
 pub use segments::{Part, PartFault, read_segments};

@@ -1,17 +1,17 @@
 //! The lines of a scenario whose bytes come in chunks: each is read and handed on as soon as it has ended, and its bytes
 //! are let go.
 ghost use Rattle.std.specs.Prelude.{◌≡◌, ◌≢◌, ◌≤◌, ◌<◌, ◌+◌, ◌^◌, [], List, ◌++◌, ◌∷◌, ℕ, true, false, length, Ok, Err, None, Some, is_some, IfOk, IfErr, OnOk};
-ghost use Rattle.nn_bytes.specs.Lines.{line_feed};
+ghost use Rattle.nn_bytes.specs.Lines.{is_blank, line_feed};
 ghost use Rattle.nn_edits.specs.Grammar.{IsLawfulLine};
 ghost use Rattle.nn_edits.specs.Reading.{either_of_line};
 ghost use Rattle.nn_scenario.specs.Chunks.{HasCome, IsReadBy, Hands, Takes, Refuses};
 ghost use Rattle.nn_scenario.specs.Reading.{Reading, nothing_read, followed_by_line};
-ghost use Rattle.nn_scenario.specs.Scenario.{is_blank, line_as};
-ghost use Rattle.nn_segment.specs.Lines.{is_unbroken};
+ghost use Rattle.nn_scenario.specs.Scenario.{line_as};
+ghost use Rattle.nn_bytes.specs.Pieces.{is_unbroken};
 ghost use Rattle.nn_types.specs.Limits.{max_input};
 
 use crate::scenario::{ScenarioFault, no_memory};
-use nn_bytes::line_end;
+use nn_bytes::{is_blank, line_end};
 use nn_edits::{Line, LineFault, Scratch, read_line};
 use std::alloc::{AllocError, Global};
 use std::marker::Model;
@@ -49,7 +49,7 @@ pub struct Lines<S> {
 
 impl<S> Model for Lines<S> {
     ghost use Rattle.std.specs.Prelude.{◌≡◌, true};
-    ghost use Rattle.nn_segment.specs.Lines.{is_unbroken};
+    ghost use Rattle.nn_bytes.specs.Pieces.{is_unbroken};
     ghost use Rattle.nn_scenario.specs.Chunks.{Lines};
 
     ghost Value = { Lines S };
@@ -216,12 +216,4 @@ fn hand_line<S: LineSink>(
     }
     let read = read_line(alloc, scratch, text).map_err(|fault| ScenarioFault { fault, line })?;
     sink.line(alloc, text, read).map_err(|_| no_memory(line))
-}
-
-/// Whether there are only spaces, tabs and carriage returns: such a line counts, and says nothing.
-pub fn is_blank(text: &[u8]) -> bool
-    ensures { result ≡ is_blank text.now }
-{
-    text.iter()
-        .all(|b| *b == b' ' || *b == b'\t' || *b == b'\r')
 }

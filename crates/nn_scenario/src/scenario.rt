@@ -5,7 +5,7 @@ ghost use Rattle.nn_scenario.specs.Chunks.{IsScenarioOf, IsReadBy};
 ghost use Rattle.nn_scenario.specs.Cut.{last_part};
 ghost use Rattle.nn_scenario.specs.Scenario.{scenario_of, scenario_of_read, HasMessagesOf, IsLawfulScenario, scenario_with};
 ghost use Rattle.nn_scenario.specs.Reading.{Reading, nothing_read, with_edit_line};
-ghost use Rattle.nn_segment.specs.Lines.{is_unbroken};
+ghost use Rattle.nn_bytes.specs.Pieces.{is_unbroken};
 ghost use Rattle.nn_types.specs.Limits.{max_input};
 
 use crate::lines::{LineSink, Lines};

@@ -2,7 +2,7 @@ use Rattle.std.proofs.Common.{rules, ◌≡◌, ◌≢◌, Err, refl, ap, arith}
 use Rattle.nn_front.specs.declared.front.Place.TheVariants.{Behind}
 use Rattle.nn_front.specs.declared.front.FrontFault.TheVariants.{TooLong}
 use Rattle.nn_front.proofs.Fronts.{pushed_behind, all_pushed, line_pushed, slice_from, too_many, too_many_at_feed}
-use Rattle.nn_segment.proofs.LineLemmas.{unbroken_to}
+use Rattle.nn_bytes.proofs.PieceLemmas.{unbroken_to}
 use Rattle.nn_front.proofs.front.Front.push_lines.Goals as goal
 
 pub returns-then-eq-clause-front : goal.returns-then-eq-clause-front

@@ -2,8 +2,8 @@ use Rattle.std.proofs.Common.{◌≡◌, true, take_all, ◌+◌, ◌-◌, ◌<�
 use Rattle.std.proofs.lemmas.List.{take_rest}
 use Rattle.std.proofs.lemmas.Result.{err_from_is_err_and}
 use Rattle.nn_bytes.specs.Lines.{line_feed}
-use Rattle.nn_segment.specs.Lines.{is_unbroken}
-use Rattle.nn_segment.proofs.LineLemmas.{unbroken_to}
+use Rattle.nn_bytes.proofs.PieceLemmas.{unbroken_to}
+use Rattle.nn_bytes.specs.Pieces.{is_unbroken}
 use Rattle.nn_scenario.specs.Chunks.{GoesOnAs}
 use Rattle.nn_scenario.proofs.ChunkLemmas.{cut_there, then_takes, then_refuses}
 use Rattle.nn_scenario.proofs.lines.Lines.push_lines.Goals as goal

@@ -1,5 +1,5 @@
 -- Lines of known bytes as pieces of their text.
-use Rattle.std.proofs.Common.{◌≡◌, ℕ, ◌+◌, ◌-◌, ◌<◌, ◌≤◌, ◌^◌, List, [], ◌∷◌, ◌++◌, length, Bool, true, false, cond, not, ◌&&◌, eqb, Option, Some, None, Result, Ok, Err, inl, inr, refl, sym, ap, ◌∙◌, arith, append-nil, append_assoc, subst}
+use Rattle.std.proofs.Common.{◌≡◌, ℕ, ◌+◌, ◌-◌, ◌<◌, ◌≤◌, ◌^◌, List, [], ◌∷◌, ◌++◌, length, Bool, true, false, cond, eqb, Option, Some, None, Result, Ok, Err, inl, inr, refl, sym, ap, ◌∙◌, arith, append-nil, append_assoc, subst}
 use Rattle.std.specs.Io.KnownBytes.{Consumes, IsAtEnd}
 use Rattle.nn_image.specs.Reading.{of_header, pieces_of, object_of, all_from, rows_from, last_path, next_line_number, at_end_line, nothing_more, with_next_row, read_image, ◌then◌}
 use Rattle.std.proofs.lemmas.Bool.Decides.{Decides-eqb}
@@ -259,13 +259,13 @@ at_end_is (Some xs) left h e = let same : xs ≡ left = cc in sym same ∙ h
 -- the next line of a reader ends
 module _ (before now after : Reader) (lines lines' : Lines) (p : Place) (l m : Loading) (text : List ℕ) (bounded : after.given < 2 ^ 62 + 2 ^ 63)
     (so_far : HasLoaded before now lines l) (next : NextEnded whole now after lines lines' p) (is : text ≡ line_text lines' p) (takes : TakesLine l m text) where
-  read : List ℕ
+  abbrev read : List ℕ
   read = so_far.bytes ++ next.bytes
 
-  came : Came before after read
+  abbrev came : Came before after read
   came = come_both before now after so_far.bytes next.bytes so_far.came next.came
 
-  ended : HasEnded whole read so_far.ended p lines'
+  abbrev ended : HasEnded whole read so_far.ended p lines'
   ended = next.ended so_far.bytes so_far.ended so_far.come
 
   text_is : text ≡ ended.line
@@ -280,7 +280,7 @@ module _ (before now after : Reader) (lines lines' : Lines) (p : Place) (l m : L
   line_refuses : (e : ImageFault) → fault_of_loading m ≡ Some e → (more : List ℕ) → read_image (joined_lines (so_far.ended ++ ended.line ∷ []) ++ more) ≡ Err e
   line_refuses e bad more = loads more ∙ refused_is m e (pieces_of more) bad
 
-  behind : List ℕ
+  abbrev behind : List ℕ
   behind = ended.come.torn ++ ahead lines'
 
   pub line_stops : (e : ImageFault) → fault_of_loading m ≡ Some e → LoadFails before.left e read_image
@@ -305,26 +305,26 @@ module _ (before now after : Reader) (lines lines' : Lines) (p : Place) (l m : L
 -- the bytes end
 module _ (before now after : Reader) (lines lines' : Lines) (l : Loading) (torn : List ℕ) (bounded : after.given < 2 ^ 62 + 2 ^ 63)
     (so_far : HasLoaded before now lines l) (on : ReadOn whole now after lines lines') (end : IsAtEnd after.left) (none : ahead lines' ≡ []) (is : torn ≡ lines'.torn.kept) where
-  read : List ℕ
-  read = so_far.bytes ++ on.bytes
+  abbrev all_read : List ℕ
+  all_read = so_far.bytes ++ on.bytes
 
-  came : Came before after read
-  came = come_both before now after so_far.bytes on.bytes so_far.came on.came
+  abbrev all_came : Came before after all_read
+  all_came = come_both before now after so_far.bytes on.bytes so_far.came on.came
 
-  come : HasCome whole read so_far.ended lines'
-  come = on.goes_on so_far.bytes so_far.ended so_far.come
+  abbrev all_come : HasCome whole all_read so_far.ended lines'
+  all_come = on.goes_on so_far.bytes so_far.ended so_far.come
 
-  torn_is : torn ≡ come.torn
-  torn_is = is ∙ whole_torn whole read so_far.ended lines' come (counted_within before after read bounded came)
+  torn_is : torn ≡ all_come.torn
+  torn_is = is ∙ whole_torn whole all_read so_far.ended lines' all_come (counted_within before after all_read bounded all_came)
 
   torn_read : (text : List ℕ) → before.left ≡ Some text → read_image text ≡ loaded_from l (torn ∷ [])
   torn_read text there =
-      let k = known before.left after.left read text came.got there in
+      let k = known before.left after.left all_read text all_came.got there in
       ap read_image
-      (k.2 ∙ ap (λ left. read ++ left) (at_end_is after.left k.0 end k.1) ∙ append-nil read ∙ come.joined
-      ∙ ap (λ a. joined_lines so_far.ended ++ (come.torn ++ a)) none
-      ∙ ap (λ t. joined_lines so_far.ended ++ t) (append-nil come.torn))
-      ∙ so_far.loads come.torn ∙ ap (loaded_from l) (only_piece come.torn come.unbroken ∙ ap (λ t. t ∷ []) (sym torn_is))
+      (k.2 ∙ ap (λ left. all_read ++ left) (at_end_is after.left k.0 end k.1) ∙ append-nil all_read ∙ all_come.joined
+      ∙ ap (λ a. joined_lines so_far.ended ++ (all_come.torn ++ a)) none
+      ∙ ap (λ t. joined_lines so_far.ended ++ t) (append-nil all_come.torn))
+      ∙ so_far.loads all_come.torn ∙ ap (loaded_from l) (only_piece all_come.torn all_come.unbroken ∙ ap (λ t. t ∷ []) (sym torn_is))
 
   pub all_loaded : (r : Result (Namespace × ℕ) ImageFault) → r ≡ loaded_from l (torn ∷ []) → IfOk r (λ i. GivesAtEnd before.left after.left read_image i)
   all_loaded (Ok i) is = λ text there. (torn_read text there ∙ sym is, end)
@@ -339,4 +339,4 @@ module _ (before now after : Reader) (lines lines' : Lines) (l : Loading) (torn 
   ends_soon (Err e) is = inr (inl (torn_fault l torn e so_far.sound (sym is), end))
 
   pub end_unfailed : after.failed ≡ before.failed
-  end_unfailed = came.unfailed
+  end_unfailed = all_came.unfailed

@@ -1,13 +1,12 @@
 -- An input that is cut into its lines as it comes.
-use Rattle.std.proofs.Common.{◌≡◌, ℕ, flat_map, ◌+◌, ◌-◌, ◌<◌, ◌≤◌, ◌==◌, Bool, true, false, cond, not, List, [], ◌∷◌, ◌++◌, length, length-drop, take, drop, get_or, refl, sym, subst, ap, ap₂, ◌∙◌, arith, append_assoc, append-nil, length-append, zero, suc, ◌&&◌}
-use Rattle.std.specs.List.{onto_first}
+use Rattle.std.proofs.Common.{◌≡◌, ℕ, flat_map, ◌+◌, ◌-◌, ◌<◌, ◌≤◌, ◌==◌, Bool, true, false, not, List, [], ◌∷◌, ◌++◌, length, length-drop, take, drop, get_or, refl, sym, subst, ap, ap₂, ◌∙◌, arith, append_assoc, append-nil, length-append, zero, suc, ◌&&◌}
 use Rattle.std.specs.Prelude.{nat_lt}
-use Rattle.std.proofs.lemmas.Bool.{and_parts, and_from, not-true, ltb-true, ltb-false}
+use Rattle.std.proofs.lemmas.Bool.{and_parts, and_from, ltb-true, ltb-false}
 use Rattle.std.proofs.Math.Seq.{drop-cons}
 use Rattle.std.proofs.lemmas.List.{nil_from_length, take-append-drop}
 use Rattle.std.proofs.lemmas.List.Folds.{list_all-append}
 use Rattle.nn_bytes.specs.Lines.{is_blank, is_blank_byte, line_feed}
-use Rattle.nn_bytes.specs.Pieces.{is_unbroken, pieces}
+use Rattle.nn_bytes.specs.Pieces.{is_unbroken}
 use Rattle.nn_bytes.proofs.PieceLemmas.{cut_first, one_piece, some_piece, unbroken_both}
 use Rattle.nn_live.specs.Live.{LiveSetup, ServiceState, Stage, ends, serving, takes, takes_end, takes_pieces, takes_torn, written_of}
 use Rattle.nn_live.specs.Serving.{Service, IsAtService, FollowsStep}

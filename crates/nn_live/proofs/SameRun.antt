@@ -21,7 +21,7 @@ use Rattle.nn_model.specs.Log.{IsLog}
 use Rattle.nn_model.specs.Namespace.{Namespace, root_alone}
 use Rattle.nn_model.proofs.Equals.{root_alone_is_well_formed}
 use Rattle.nn_bytes.proofs.PieceLemmas.{pieces_of_lines}
-use Rattle.nn_bytes.specs.Pieces.{is_unbroken, joined_lines, pieces}
+use Rattle.nn_bytes.specs.Pieces.{is_unbroken, joined_lines}
 use Rattle.nn_segment.specs.LogEnd.{LogEnd, LogStop, end_of_log}
 use Rattle.nn_segment.specs.Segment.{Segment}
 use Rattle.nn_scenario.specs.Cut.{Part, no_lines, cut, segments_from}

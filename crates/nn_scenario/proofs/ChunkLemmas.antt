@@ -1,12 +1,9 @@
 -- A text's bytes, chunk by chunk.
-use Rattle.std.proofs.Common.{◌≡◌, ◌≢◌, ℕ, ◌+◌, List, [], ◌∷◌, ◌++◌, length, true, false, Option, None, Some, is_some, Result, Ok, Err, refl, sym, ap, ◌∙◌, subst}
-use Rattle.std.proofs.Common.{append_assoc, append-nil, eqb, cond, not, suc, ◌<◌, take, drop, get_or, arith}
+use Rattle.std.proofs.Common.{◌≡◌, ◌≢◌, ℕ, ◌+◌, List, [], ◌∷◌, ◌++◌, length, true, false, Option, None, Some, is_some, Result, Ok, Err, sym, ap, ◌∙◌, subst}
+use Rattle.std.proofs.Common.{append_assoc, append-nil, suc, ◌<◌, take, drop, get_or, arith}
 use Rattle.std.specs.Prelude.{IfOk, IfErr, OnOk}
 use Rattle.std.proofs.Math.Seq.{drop-cons}
 use Rattle.std.proofs.lemmas.List.{take-append-drop}
-use Rattle.std.specs.List.{onto_first}
-use Rattle.std.proofs.lemmas.Bool.{and_from, and_parts, not-true}
-use Rattle.std.proofs.lemmas.List.Folds.{list_all-append}
 use Rattle.nn_bytes.specs.Lines.{is_blank, line_feed}
 use Rattle.nn_edits.specs.Reading.{either_of_line}
 use Rattle.nn_edits.specs.declared.fault.LineFault.{LineFault}

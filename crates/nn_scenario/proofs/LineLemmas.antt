@@ -1,6 +1,6 @@
 -- Lines, one after another.
 use Rattle.std.proofs.Common.{◌≡◌, ℕ, ◌+◌, List, [], ◌∷◌, ◌++◌, Bool, true, false, Result, Ok, Err, refl, sym, ap, ◌∙◌}
-use Rattle.std.proofs.Common.{append_assoc, append-nil, eqb, cond, ◌≤◌}
+use Rattle.std.proofs.Common.{append_assoc, append-nil, cond, ◌≤◌}
 use Rattle.std.specs.Bool.{MatchBool}
 use Rattle.nn_bytes.specs.Lines.{is_blank}
 use Rattle.nn_bytes.specs.Pieces.{pieces}

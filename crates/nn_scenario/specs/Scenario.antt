@@ -1,5 +1,5 @@
 -- A scenario's bytes as lines, the lines as edits and messages.
-use Rattle.std.specs.Prelude.{◌≡◌, ◌≤◌, ℕ, ◌+◌, ◌==◌, List, [], ◌∷◌, length, flat_map, Bool, if◌then◌else◌, Result, Ok, Err}
+use Rattle.std.specs.Prelude.{◌≡◌, ◌≤◌, ℕ, ◌+◌, ◌==◌, List, [], ◌∷◌, length, flat_map, if◌then◌else◌, Result, Ok, Err}
 use Rattle.std.specs.List.{All}
 use Rattle.nn_bytes.specs.Lines.{is_blank}
 use Rattle.nn_bytes.specs.Pieces.{pieces}

@@ -1,2 +1,1 @@
 mod Blocks
-pub mod PieceLemmas

@@ -5,9 +5,10 @@ use Rattle.std.proofs.lemmas.List.{length-append, length-take, take_all}
 use Rattle.std.proofs.lemmas.List.Folds.{list_all-append}
 use Rattle.std.proofs.KnownBytes.{Consumes-nil, Consumes-trans}
 use Rattle.nn_device.specs.Device.{Reader}
-use Rattle.nn_bytes.specs.Lines.{is_blank, is_blank_byte, line_feed}
-use Rattle.nn_bytes.specs.Pieces.{is_unbroken, joined_lines, pieces}
-use Rattle.nn_bytes.proofs.PieceLemmas.{each_more, ends, joined_more, lines_first, one_piece, unbroken_both}
+use Rattle.nn_bytes.specs.Lines.{line_feed}
+use Rattle.nn_input.specs.Blank.{is_blank, is_blank_byte}
+use Rattle.nn_input.specs.Pieces.{is_unbroken, joined_lines, pieces}
+use Rattle.nn_input.proofs.PieceLemmas.{each_more, ends, joined_more, lines_first, one_piece, unbroken_both}
 use Rattle.nn_input.specs.Cut.{TornBytes, Lines, Came, HasCome, HasEnded, IsCutTo, IsTextOf, KeepsFirst, NextEnded, ReadOn, Refilled, ahead, line_text, no_bytes}
 use Rattle.nn_input.specs.declared.lines.Place.{Place}
 use Rattle.nn_input.specs.declared.lines.Place.TheVariants as place

@@ -4,8 +4,8 @@ use Rattle.std.specs.List.{position_or_len}
 use Rattle.std.proofs.lemmas.Bool.Decides.{Decides-eqb}
 use Rattle.std.proofs.lemmas.List.{take-append-drop, drop_more, drop-drop, drop-take, length-take, take_all}
 use Rattle.nn_bytes.specs.Lines.{line_feed}
-use Rattle.nn_bytes.specs.Pieces.{is_unbroken}
-use Rattle.nn_bytes.proofs.PieceLemmas.{ends, first_unbroken}
+use Rattle.nn_input.specs.Pieces.{is_unbroken}
+use Rattle.nn_input.proofs.PieceLemmas.{ends, first_unbroken}
 
 one_plus : (k : ℕ) → 1 + k ≡ suc k
 one_plus k = omega arith

@@ -3,8 +3,8 @@ use Rattle.std.specs.Prelude.{◌≡◌, ◌⊎◌, ◌≤◌, ◌+◌, ◌-◌,
 use Rattle.std.specs.List.{list_all}
 use Rattle.std.specs.Io.KnownBytes.{Consumes}
 use Rattle.nn_device.specs.Device.{Reader}
-use Rattle.nn_bytes.specs.Lines.{is_blank}
-use Rattle.nn_bytes.specs.Pieces.{is_unbroken, joined_lines}
+use Rattle.nn_input.specs.Blank.{is_blank}
+use Rattle.nn_input.specs.Pieces.{is_unbroken, joined_lines}
 use Rattle.nn_input.specs.declared.lines.Place.{Place}
 use Rattle.nn_input.specs.declared.lines.Place.TheVariants as place
 use Rattle.nn_input.specs.declared.fault.LinesFault.{LinesFault}

@@ -2,9 +2,11 @@
 //! takes an input asks for its lines, one after another, and keeps no bytes of it.
 #![tactic(auto)]
 
+mod blank;
 mod fault;
 mod lines;
 mod torn;
 
+pub use blank::is_blank;
 pub use fault::LinesFault;
 pub use lines::{Lines, Place};

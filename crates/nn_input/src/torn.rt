@@ -2,7 +2,7 @@
 ghost use Rattle.std.specs.Prelude.{◌≡◌, ◌-◌, ◌++◌, [], List, ℕ, length, take, OnOk};
 ghost use Rattle.nn_input.specs.Cut.{KeepsFirst, no_bytes};
 
-use nn_bytes::is_blank;
+use crate::blank::is_blank;
 use std::alloc::{AllocError, Global};
 use std::marker::Model;
 

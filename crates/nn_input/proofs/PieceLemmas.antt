@@ -5,7 +5,7 @@ use Rattle.std.proofs.lemmas.Bool.{and_from, and_parts, not-true}
 use Rattle.std.proofs.lemmas.Grind.{flat_map-append}
 use Rattle.std.proofs.lemmas.List.Folds.{list_all-append}
 use Rattle.nn_bytes.specs.Lines.{line_feed}
-use Rattle.nn_bytes.specs.Pieces.{is_unbroken, joined_lines, pieces}
+use Rattle.nn_input.specs.Pieces.{is_unbroken, joined_lines, pieces}
 
 abbrev pub ends : ℕ → Bool
 ends b = b == line_feed

@@ -1,8 +1,9 @@
 //! The lines of a reader, one after another.
 ghost use Rattle.std.specs.Prelude.{◌≡◌, ◌≤◌, ◌<◌, ◌+◌, ◌^◌, [], ◌∷◌, List, ℕ, false, length, IfOk, IfErr, IfSome, None, true};
 ghost use Rattle.std.specs.Io.KnownBytes.{IsAtEnd};
-ghost use Rattle.nn_input.specs.Cut.{HasCome, HasEnded, IsCutTo, IsThere, IsToldOf, NextEnded, ReadOn, Refilled, ahead, line_text};
+ghost use Rattle.nn_input.specs.Cut.{HasCome, HasEnded, IsCutTo, IsFresh, IsThere, IsToldOf, NextEnded, ReadOn, Refilled, ahead, line_blank, line_text};
 
+use crate::blank::is_blank;
 use crate::fault::LinesFault;
 use crate::torn::TornBytes;
 use nn_bytes::line_end;
@@ -51,7 +52,8 @@ impl Model for Lines {
 impl Lines {
     /// No bytes.
     pub fn new(alloc: Global) -> Result<Lines, AllocError>
-        ensures { IfOk result (λ l. (most : ℕ) → HasCome most [] [] l) }
+        ensures none { IfOk result (λ l. (most : ℕ) → HasCome most [] [] l) }
+        ensures fresh { IfOk result (λ l. (ahead l ≡ []) × IsFresh l) }
     {
         let buffer = new_buffer(alloc, BUFFER)?;
         Ok(Lines {
@@ -104,7 +106,8 @@ impl Lines {
         ensures some { IfOk result (λ more. more ≡ true → (input.old.given < input.new.given) × (input.old.given < 2 ^ 62)) }
         ensures end { IfOk result (λ more. more ≡ false → IsAtEnd input.new.left) }
         ensures none { IfOk result (λ more. more ≡ false → ahead self.new ≡ []) }
-        ensures failed { IfErr result (λ _. input.new.failed ≡ true) }
+        ensures few { length (ahead self.new) ≤ 2 ^ 16 }
+        ensures failed { IfErr result (λ _. (input.new.failed ≡ true) × (input.new.given ≡ input.old.given)) }
     {
         let Ok(n) = input.read(&mut self.buffer) else {
             return Err(ReadFailed);
@@ -185,11 +188,44 @@ impl Lines {
         }
     }
 
+    /// Whether the line that has just ended is blank, also where its text was cut short.
+    pub fn is_blank(&self, place: Place) -> bool
+        requires { IsThere place self.now }
+        ensures { result ≡ line_blank self.now place }
+    {
+        match place {
+            Place::Read(start, end) => is_blank(&self.buffer[start..end]),
+            Place::Kept => self.last.is_blank(),
+        }
+    }
+
     /// What is kept of the bytes behind the last line feed, once all that was read is cut.
     pub fn torn(&self) -> &[u8]
         ensures { result.now ≡ self.now.torn.kept }
     {
         self.torn.as_slice()
+    }
+
+    /// Whether all bytes behind the last line feed are blank, also those that are not kept.
+    pub fn is_torn_blank(&self) -> bool
+        ensures { result ≡ self.now.torn.blank }
+    {
+        self.torn.is_blank()
+    }
+
+    /// How many bytes were read and are not cut: those of one read at most.
+    pub fn left(&self) -> usize
+        ensures left { result ≡ length (ahead self.now) }
+        ensures few { result ≤ 2 ^ 16 }
+    {
+        self.to - self.from
+    }
+
+    /// Lets them go, uncut.
+    pub fn forget(&mut self)
+        ensures { ahead self.new ≡ [] }
+    {
+        self.from = self.to;
     }
 }
 

@@ -4,4 +4,5 @@ pub mod LineLemmas
 pub mod LawfulLemmas
 pub mod SegmentLemmas
 pub mod ChunkLemmas
+pub mod FollowLemmas
 pub mod CheckLemmas

@@ -4,6 +4,7 @@ pub mod Cut
 pub mod Scenario
 pub mod Reading
 pub mod Chunks
+pub mod Follow
 pub mod Checking
 pub mod CheckingRows
 pub mod CutRows

@@ -1,0 +1,241 @@
+-- Lines that are handed on as they end.
+use Rattle.std.proofs.Common.{◌≡◌, ◌⊎◌, inl, inr, ℕ, suc, ◌+◌, ◌<◌, ◌≤◌, List, [], ◌∷◌, ◌++◌, length, take, drop, Bool, true, false, cond, not, eqb, Option, None, Some, Result, Ok, Err, refl, sym, ap, subst, ◌∙◌, arith, append_assoc}
+use Rattle.std.specs.Prelude.{◌≢◌, option_and_then}
+use Rattle.std.specs.Bool.{MatchBool}
+use Rattle.std.specs.List.{list_all}
+use Rattle.std.specs.Option.{ok_or}
+use Rattle.std.specs.Result.{is_ok}
+use Rattle.std.proofs.lemmas.Bool.{and_parts, lt-ltb}
+use Rattle.std.proofs.lemmas.List.{length-append, length-take, take-append-drop}
+use Rattle.std.proofs.lemmas.List.Folds.{list_all-append}
+use Rattle.nn_bytes.specs.Lines.{line_feed}
+use Rattle.nn_types.specs.Limits.{max_input, max_line}
+use Rattle.nn_device.specs.Device.{Reader}
+use Rattle.nn_edits.specs.Outcome.{◌>>=◌}
+use Rattle.nn_edits.specs.Reading.{either_in, either_of_line, object_in, object_only, value_of}
+use Rattle.nn_edits.specs.declared.fault.LineFault.{LineFault}
+use Rattle.nn_edits.specs.declared.fault.LineFault.TheVariants as fault
+use Rattle.nn_edits.specs.declared.line.Line.{Line}
+use Rattle.nn_input.specs.Cut.{Came, HasCome, HasEnded, IsFresh, Lines, Refilled, ahead}
+use Rattle.nn_input.specs.Pieces.{joined_lines, pieces}
+use Rattle.nn_input.specs.declared.lines.Place.{Place}
+use Rattle.nn_input.proofs.Cuts.{come_both, come_cut, come_pieces, comes_ahead, kept_text}
+use Rattle.nn_segment.specs.Lines.{is_unbroken}
+use Rattle.nn_scenario.specs.Chunks.{Hands, IsReadBy, IsRefusedLine, follow}
+use Rattle.nn_scenario.specs.Cut.{last_part}
+use Rattle.nn_scenario.specs.Follow.{CameWithin, IsLeftUnread, IsLineText, IsRefusedAs, KeepsLines, LinesRead, sink_unless}
+use Rattle.nn_scenario.specs.Reading.{IsFollowed, Reading, followed_by_line, nothing_read}
+use Rattle.nn_scenario.specs.Scenario.{ScenarioLine, is_blank, line_as, lines_from, scenario_from, scenario_of, scenario_with}
+use Rattle.nn_scenario.specs.declared.follow.ReadLinesFault.{ReadLinesFault}
+use Rattle.nn_scenario.specs.declared.follow.ReadLinesFault.TheVariants as unread
+use Rattle.nn_scenario.specs.declared.scenario.ScenarioFault.{ScenarioFault}
+use Rattle.nn_scenario.proofs.LineLemmas.{no_more, refused, turn}
+
+-- ---- The text of a line, of which no more is kept than its fault needs.
+
+-- a line of more bytes than one may have is refused, whatever they are
+pub long_fault : (text : List ℕ) → max_line < length text → either_of_line text ≡ Err fault.LineTooLong
+unfolding either_of_line object_in
+long_fault text long = ap (λ b. (cond b (Err fault.LineTooLong) (ok_or (option_and_then object_only (value_of text)) fault.NotJson)) >>= either_in) (lt-ltb max_line (length text) long)
+
+-- so are its first bytes
+cut_is_long : (line text : List ℕ) → max_line + 1 ≤ length line → text ≡ take (max_line + 1) line → max_line < length text
+cut_is_long line text long same = omega (arith, long, ap length same, length-take (max_line + 1) line)
+
+module _ (line text : List ℕ) (blank : Bool) (is : IsLineText line text blank) where
+  -- what is read is all of the line
+  text_read : (read : Line) → either_of_line text ≡ Ok read → text ≡ line
+  text_read read as = at is.is
+    where
+      at : (text ≡ line) ⊎ ((max_line + 1 ≤ length line) × (text ≡ take (max_line + 1) line) × (blank ≡ is_blank line)) → text ≡ line
+      at (inl same) = same
+      at (inr (long, cut, told)) = absurd (let clash : false ≡ true = ap is_ok (sym (long_fault text (cut_is_long line text long cut)) ∙ as) in cc)
+
+  text_refused : (d : LineFault) → either_of_line text ≡ Err d → either_of_line line ≡ Err d
+  text_refused d as = at is.is
+    where
+      at : (text ≡ line) ⊎ ((max_line + 1 ≤ length line) × (text ≡ take (max_line + 1) line) × (blank ≡ is_blank line)) → either_of_line line ≡ Err d
+      at (inl same) = ap either_of_line (sym same) ∙ as
+      at (inr (long, cut, told)) = long_fault line (omega (arith, long)) ∙ sym (long_fault text (cut_is_long line text long cut)) ∙ as
+
+  pub text_unbroken : is_unbroken line ≡ true → is_unbroken text ≡ true
+  text_unbroken whole = at is.is
+    where
+      first : is_unbroken (take (max_line + 1) line) ≡ true
+      first = (and_parts _ _ (sym (list_all-append (λ b. not (eqb b line_feed)) (take (max_line + 1) line) (drop (max_line + 1) line)) ∙ ap is_unbroken (take-append-drop (max_line + 1) line) ∙ whole)).0
+      at : (text ≡ line) ⊎ ((max_line + 1 ≤ length line) × (text ≡ take (max_line + 1) line) × (blank ≡ is_blank line)) → is_unbroken text ≡ true
+      at (inl same) = ap is_unbroken same ∙ whole
+      at (inr (long, cut, told)) = ap is_unbroken cut ∙ first
+
+  -- a blank line says nothing
+  pub blank_hands : {S : Type 0} (has_read : S → Reading → S → Type 0) (s : S) → blank ≡ true → Hands has_read line s s
+  blank_hands has_read s e = λ first x h. (x, h, subst (λ b. MatchBool b (x ≡ x) ((read : Line) × (either_of_line line ≡ Ok read) × (x ≡ followed_by_line x (line_as line read)))) (sym e ∙ is.told) refl)
+
+  -- another was read, and the sink took it
+  pub read_hands : {S : Type 0} (has_read : S → Reading → S → Type 0) (s t : S) (read : Line) → blank ≡ false → either_of_line text ≡ Ok read
+      → ((first : S) (x : Reading) → has_read first x s → has_read first (followed_by_line x (line_as text read)) t) → Hands has_read line s t
+  read_hands has_read s t read e as took = λ first x h.
+      let same : text ≡ line = text_read read as in
+      let next : Reading = followed_by_line x (line_as text read) in
+      (next, took first x h, subst (λ b. MatchBool b (next ≡ x) ((read : Line) × (either_of_line line ≡ Ok read) × (next ≡ followed_by_line x (line_as line read)))) (sym e ∙ is.told)
+      (read, ap either_of_line (sym same) ∙ as, ap (λ l. followed_by_line x (line_as l read)) same))
+
+  -- or it was refused, or there was no memory for it
+  pub is_refused : (n : ℕ) (d : LineFault) → blank ≡ false → (d ≢ fault.OutOfMemory → either_of_line text ≡ Err d) → IsRefusedAs line n (record { fault = d; line = n })
+  is_refused n d e as = record { number = refl; said = sym is.told ∙ e; fault = λ other. text_refused d (as other) }
+
+-- ---- The lines that have ended.
+
+-- one more is as many and one
+length_one : (lines : List (List ℕ)) (line : List ℕ) → length (lines ++ line ∷ []) ≡ length lines + 1
+length_one lines line = length-append lines (line ∷ [])
+
+nothing_kept : KeepsLines [] nothing_read
+nothing_kept more = same (lines_from 1 more)
+  where
+    same : (r : Result (List ScenarioLine) ScenarioFault) → scenario_from r ≡ follow nothing_read r
+    same (Ok lines) = refl
+    same (Err e) = refl
+
+line_first : (lines : List (List ℕ)) (line : List ℕ) (x : Reading) → KeepsLines lines x
+    → (more : List (List ℕ)) → scenario_from (lines_from 1 ((lines ++ line ∷ []) ++ more)) ≡ follow x (lines_from (length lines + 1) (line ∷ more))
+line_first lines line x kept more = ap (λ ls. scenario_from (lines_from 1 ls)) (append_assoc lines (line ∷ []) more) ∙ kept (line ∷ more)
+
+line_kept : (lines : List (List ℕ)) (line : List ℕ) (x next : Reading) → KeepsLines lines x → IsFollowed line x next → KeepsLines (lines ++ line ∷ []) next
+line_kept lines line x next kept followed = λ more.
+    line_first lines line x kept more ∙ turn (length lines + 1) line more x next followed ∙ ap (λ n. follow next (lines_from (n + 1) more)) (sym (length_one lines line))
+
+line_refused : (lines : List (List ℕ)) (line : List ℕ) (n : ℕ) (bad : ScenarioFault) (x : Reading) → n ≡ length lines → KeepsLines lines x → IsRefusedAs line (n + 1) bad → bad.fault ≢ fault.OutOfMemory
+    → (more : List (List ℕ)) → follow x (lines_from (length lines + 1) (line ∷ more)) ≡ Err bad
+line_refused lines line n bad x count kept why other more =
+    refused (length lines + 1) line more bad.fault x why.said (why.fault other)
+    ∙ ap (λ k. Err (record { fault = bad.fault; line = k })) (ap (λ k. k + 1) (sym count) ∙ sym why.number)
+
+scenario_pieces : (text : List ℕ) → scenario_of text ≡ scenario_from (lines_from 1 (pieces text))
+unfolding scenario_of
+scenario_pieces text = refl
+
+lines_fewer : (lines : List (List ℕ)) → length lines ≤ length (joined_lines lines)
+lines_fewer [] = omega arith
+lines_fewer (line ∷ lines) = omega (arith, lines_fewer lines, length-append (line ++ line_feed ∷ []) (joined_lines lines), length-append line (line_feed ∷ []))
+
+module _ {S : Type 0} (has_read : S → Reading → S → Type 0) (first : S) where
+  pub nothing_come : (l : Lines) → IsFresh l → has_read first nothing_read first → LinesRead has_read first (ahead l) 0 l first
+  nothing_come l fresh new = record { lines = []; come = fresh (max_line + 1); count = refl; reading = nothing_read; read = new; kept = nothing_kept }
+
+  -- each takes a byte at least
+  pub few_lines : (text : List ℕ) (n : ℕ) (l : Lines) (s : S) → LinesRead has_read first text n l s → n + length (ahead l) ≤ length text
+  few_lines text n l s r =
+      omega (arith, r.count, lines_fewer r.lines, ap length r.come.joined, length-append (joined_lines r.lines) (r.come.torn ++ ahead l), length-append r.come.torn (ahead l))
+
+  -- bytes come
+  pub more_come : (text : List ℕ) (n : ℕ) (a b : Reader) (old new : Lines) (s : S) → LinesRead has_read first text n old s → ahead old ≡ [] → (m : Refilled a b old new) → LinesRead has_read first (text ++ m.bytes) n new s
+  more_come text n a b old new s r none m = record {
+    lines = r.lines;
+    come = comes_ahead (max_line + 1) text m.bytes r.lines old new none m.are m.torn r.come;
+    count = r.count;
+    reading = r.reading;
+    read = r.read;
+    kept = r.kept;
+  }
+
+  -- no line ends in them
+  pub none_more : (text : List ℕ) (n : ℕ) (old new : Lines) (s : S) → ((text : List ℕ) (lines : List (List ℕ)) → HasCome (max_line + 1) text lines old → HasCome (max_line + 1) text lines new)
+      → LinesRead has_read first text n old s → LinesRead has_read first text n new s
+  none_more text n old new s cut r = record { lines = r.lines; come = cut text r.lines r.come; count = r.count; reading = r.reading; read = r.read; kept = r.kept }
+
+  module _ (text : List ℕ) (n : ℕ) (old new : Lines) (s t : S) (p : Place) (r : LinesRead has_read first text n old s) (e : HasEnded (max_line + 1) text r.lines p new) where
+    -- a line ends, and is handed on
+    pub one_more : Hands has_read e.line s t → LinesRead has_read first text (n + 1) new t
+    one_more hands =
+        let y = hands first r.reading r.read in
+        record {
+          lines = r.lines ++ e.line ∷ [];
+          come = e.come;
+          count = ap (λ k. k + 1) r.count ∙ sym (length_one r.lines e.line);
+          reading = y.0;
+          read = y.1;
+          kept = line_kept r.lines e.line r.reading y.0 r.kept y.2;
+        }
+
+    -- or it is refused
+    pub one_refused : (bad : ScenarioFault) → IsRefusedAs e.line (n + 1) bad → IsRefusedLine text bad
+    one_refused bad why = λ other more.
+        scenario_pieces (text ++ more)
+        ∙ ap (λ ps. scenario_from (lines_from 1 ps)) (come_pieces (max_line + 1) text (r.lines ++ e.line ∷ []) new e.come more)
+        ∙ line_first r.lines e.line r.reading r.kept (pieces (e.come.torn ++ (ahead new ++ more)))
+        ∙ line_refused r.lines e.line n bad r.reading r.count r.kept why other (pieces (e.come.torn ++ (ahead new ++ more)))
+
+  -- ---- The last line.
+
+  module _ (text : List ℕ) (n : ℕ) (l : Lines) (s t : S) (none : ahead l ≡ []) (r : LinesRead has_read first text n l s) where
+    last_come : scenario_of text ≡ follow r.reading (lines_from (length r.lines + 1) (r.come.torn ∷ []))
+    last_come = scenario_pieces text ∙ ap (λ ps. scenario_from (lines_from 1 ps)) ((come_cut (max_line + 1) text r.lines l none r.come).1) ∙ r.kept (r.come.torn ∷ [])
+
+    pub last_text : IsLineText r.come.torn l.torn.kept l.torn.blank
+    last_text = kept_text (max_line + 1) r.come.torn l.torn r.come.kept
+
+    pub last_read : Hands has_read r.come.torn s t → IsReadBy has_read first text (Ok t)
+    last_read hands =
+        let y = hands first r.reading r.read in
+        (y.0, y.1, last_come ∙ turn (length r.lines + 1) r.come.torn [] r.reading y.0 y.2 ∙ no_more (length r.lines + 1 + 1) y.0)
+
+    pub last_refused : (bad : ScenarioFault) → IsRefusedAs r.come.torn (n + 1) bad → IsReadBy has_read first text (Err bad)
+    last_refused bad why = λ other. last_come ∙ line_refused r.lines r.come.torn n bad r.reading r.count r.kept why other []
+
+  -- a line of the text before was refused
+  pub refused_text : (text more : List ℕ) (bad : ScenarioFault) → IsRefusedLine text bad → IsReadBy has_read first (text ++ more) (Err bad)
+  refused_text text more bad is = λ other. is other more
+
+-- ---- So much of an input was read.
+
+-- of the bytes that were ahead, and of those that came, each line that has ended was handed on; so many bytes more may come
+pub record SoFar {S : Type 0} (has_read : S → Reading → S → Type 0) (first : S) (start : List ℕ) (before after : Reader) (left ended : ℕ) (l : Lines) (s : S) : Type 0 where
+  pub bytes : List ℕ
+  pub came : Came before after bytes
+  pub room : left + length (start ++ bytes) ≡ max_input
+  pub read : LinesRead has_read first (start ++ bytes) ended l s
+
+-- what a fault says of the reader, it says of all that was read before it
+pub unread_behind : (most left : ℕ) (start bytes : List ℕ) (a b c : Reader) (why : ReadLinesFault) → Came a b bytes → left + length (start ++ bytes) ≡ most → IsLeftUnread left [] b c why → IsLeftUnread most start a c why
+unread_behind most left start bytes a b c unread.ReadFailed came room is = is
+unread_behind most left start bytes a b c unread.TooLong came room is =
+    let far = is.1 in (
+      bytes ++ is.0,
+      record { came = come_both a b c bytes is.0 came far.came; beyond = omega (arith, far.beyond, room, length-append start bytes, length-append start (bytes ++ is.0), length-append bytes is.0) },
+    )
+unread_behind most left start bytes a b c unread.OutOfMemory came room is = is ∙ came.unfailed
+
+-- so it is with bytes that are no more than may come
+pub within_both : (most left : ℕ) (start bytes more : List ℕ) (a b c : Reader) → Came a b bytes → left + length (start ++ bytes) ≡ most → CameWithin left [] b c more → CameWithin most start a c (bytes ++ more)
+within_both most left start bytes more a b c came room w = record {
+  came = come_both a b c bytes more came w.came;
+  within = omega (arith, w.within, room, length-append start bytes, length-append start (bytes ++ more), length-append bytes more);
+}
+
+module _ {S : Type 0} (has_read : S → Reading → S → Type 0) (first : S) (start : List ℕ) (before mid after : Reader) (left left' n m : ℕ) (old cut new : Lines) (s t : S) (x : SoFar has_read first start before mid left n old s) where
+  pub few_so_far : n + length (ahead old) ≤ max_input
+  few_so_far = omega (arith, x.room, few_lines has_read first (start ++ x.bytes) n old s x.read)
+
+  -- a read more
+  pub read_more : LinesRead has_read first (start ++ x.bytes) m cut t → ahead cut ≡ [] → Refilled mid after cut new → left ≡ left' + length (ahead new) → SoFar has_read first start before after left' m new t
+  read_more r none f room = record {
+    bytes = x.bytes ++ f.bytes;
+    came = come_both before mid after x.bytes f.bytes x.came f.came;
+    room = omega (arith, x.room, room, ap length f.are, length-append start x.bytes, length-append start (x.bytes ++ f.bytes), length-append x.bytes f.bytes);
+    read = subst (λ text. LinesRead has_read first text m new t) (append_assoc start x.bytes f.bytes) (more_come has_read first (start ++ x.bytes) m mid after cut new t r none f);
+  }
+
+  -- a line is refused, and the rest is read
+  pub read_rest : (bad : ScenarioFault) → IsRefusedLine (start ++ x.bytes) bad → (more : List ℕ) × CameWithin left [] mid after more
+      → (bytes : List ℕ) × CameWithin max_input start before after bytes × IsReadBy has_read first (start ++ bytes) (sink_unless (Some bad) t)
+  read_rest bad is (more, w) = (
+    x.bytes ++ more,
+    within_both max_input left start x.bytes more before mid after x.came x.room w,
+    subst (λ text. IsReadBy has_read first text (Err bad)) (append_assoc start x.bytes more) (refused_text has_read first (start ++ x.bytes) more bad is),
+  )
+
+  -- nothing is left
+  pub read_all : (bad : Option ScenarioFault) → IsReadBy has_read first (start ++ x.bytes) (sink_unless bad t)
+      → (bytes : List ℕ) × CameWithin max_input start before mid bytes × IsReadBy has_read first (start ++ bytes) (sink_unless bad t)
+  read_all bad is = (x.bytes, record { came = x.came; within = omega (arith, x.room) }, is)

@@ -1,6 +1,6 @@
 -- Lines that are handed on as they end.
 use Rattle.std.proofs.Common.{◌≡◌, ◌⊎◌, inl, inr, ℕ, suc, ◌+◌, ◌<◌, ◌≤◌, List, [], ◌∷◌, ◌++◌, length, take, drop, Bool, true, false, cond, not, eqb, Option, None, Some, Result, Ok, Err, refl, sym, ap, subst, ◌∙◌, arith, append_assoc}
-use Rattle.std.specs.Prelude.{◌≢◌, option_and_then}
+use Rattle.std.specs.Prelude.{◌≢◌, IfSome, option_and_then}
 use Rattle.std.specs.Bool.{MatchBool}
 use Rattle.std.specs.List.{list_all}
 use Rattle.std.specs.Option.{ok_or}
@@ -11,7 +11,7 @@ use Rattle.std.proofs.lemmas.List.Folds.{list_all-append}
 use Rattle.nn_bytes.specs.Lines.{line_feed}
 use Rattle.nn_types.specs.Limits.{max_input, max_line}
 use Rattle.nn_device.specs.Device.{Reader}
-use Rattle.nn_edits.specs.Outcome.{◌>>=◌}
+use Rattle.nn_edits.specs.Outcome.{◌>>=◌, LineFails}
 use Rattle.nn_edits.specs.Reading.{either_in, either_of_line, object_in, object_only, value_of}
 use Rattle.nn_edits.specs.declared.fault.LineFault.{LineFault}
 use Rattle.nn_edits.specs.declared.fault.LineFault.TheVariants as fault
@@ -38,25 +38,36 @@ pub long_fault : (text : List ℕ) → max_line < length text → either_of_line
 unfolding either_of_line object_in
 long_fault text long = ap (λ b. (cond b (Err fault.LineTooLong) (ok_or (option_and_then object_only (value_of text)) fault.NotJson)) >>= either_in) (lt-ltb max_line (length text) long)
 
--- so are its first bytes
+-- a fault that is told is the one that is given
+given_fault : (d : LineFault) (given : Result Line LineFault) → LineFails d given → d ≢ fault.OutOfMemory → given ≡ Err d
+given_fault fault.NotJson given is other = is
+given_fault fault.MissingField given is other = is
+given_fault fault.BadNumber given is other = is
+given_fault fault.UnknownOp given is other = is
+given_fault fault.BadPath given is other = is
+given_fault fault.LineTooLong given is other = is
+given_fault fault.UnknownKind given is other = is
+given_fault fault.OutOfMemory given is other = absurd (other refl)
+
+-- of a line that is too long the first bytes are
 cut_is_long : (line text : List ℕ) → max_line + 1 ≤ length line → text ≡ take (max_line + 1) line → max_line < length text
 cut_is_long line text long same = omega (arith, long, ap length same, length-take (max_line + 1) line)
 
 module _ (line text : List ℕ) (blank : Bool) (is : IsLineText line text blank) where
   -- what is read is all of the line
   text_read : (read : Line) → either_of_line text ≡ Ok read → text ≡ line
-  text_read read as = at is.is
+  text_read read got = at is.is
     where
       at : (text ≡ line) ⊎ ((max_line + 1 ≤ length line) × (text ≡ take (max_line + 1) line) × (blank ≡ is_blank line)) → text ≡ line
       at (inl same) = same
-      at (inr (long, cut, told)) = absurd (let clash : false ≡ true = ap is_ok (sym (long_fault text (cut_is_long line text long cut)) ∙ as) in cc)
+      at (inr (long, cut, told)) = absurd (let clash : false ≡ true = ap is_ok (sym (long_fault text (cut_is_long line text long cut)) ∙ got) in cc)
 
   text_refused : (d : LineFault) → either_of_line text ≡ Err d → either_of_line line ≡ Err d
-  text_refused d as = at is.is
+  text_refused d got = at is.is
     where
       at : (text ≡ line) ⊎ ((max_line + 1 ≤ length line) × (text ≡ take (max_line + 1) line) × (blank ≡ is_blank line)) → either_of_line line ≡ Err d
-      at (inl same) = ap either_of_line (sym same) ∙ as
-      at (inr (long, cut, told)) = long_fault line (omega (arith, long)) ∙ sym (long_fault text (cut_is_long line text long cut)) ∙ as
+      at (inl same) = ap either_of_line (sym same) ∙ got
+      at (inr (long, cut, told)) = long_fault line (omega (arith, long)) ∙ sym (long_fault text (cut_is_long line text long cut)) ∙ got
 
   pub text_unbroken : is_unbroken line ≡ true → is_unbroken text ≡ true
   text_unbroken whole = at is.is
@@ -67,24 +78,28 @@ module _ (line text : List ℕ) (blank : Bool) (is : IsLineText line text blank)
       at (inl same) = ap is_unbroken same ∙ whole
       at (inr (long, cut, told)) = ap is_unbroken cut ∙ first
 
-  -- a blank line says nothing
-  pub blank_hands : {S : Type 0} (has_read : S → Reading → S → Type 0) (s : S) → blank ≡ true → Hands has_read line s s
-  blank_hands has_read s e = λ first x h. (x, h, subst (λ b. MatchBool b (x ≡ x) ((read : Line) × (either_of_line line ≡ Ok read) × (x ≡ followed_by_line x (line_as line read)))) (sym e ∙ is.told) refl)
-
-  -- another was read, and the sink took it
+  -- it was read, and the sink took it
   pub read_hands : {S : Type 0} (has_read : S → Reading → S → Type 0) (s t : S) (read : Line) → blank ≡ false → either_of_line text ≡ Ok read
       → ((first : S) (x : Reading) → has_read first x s → has_read first (followed_by_line x (line_as text read)) t) → Hands has_read line s t
-  read_hands has_read s t read e as took = λ first x h.
-      let same : text ≡ line = text_read read as in
+  read_hands has_read s t read e got took = λ first x h.
+      let same : text ≡ line = text_read read got in
       let next : Reading = followed_by_line x (line_as text read) in
       (next, took first x h, subst (λ b. MatchBool b (next ≡ x) ((read : Line) × (either_of_line line ≡ Ok read) × (next ≡ followed_by_line x (line_as line read)))) (sym e ∙ is.told)
-      (read, ap either_of_line (sym same) ∙ as, ap (λ l. followed_by_line x (line_as l read)) same))
+      (read, ap either_of_line (sym same) ∙ got, ap (λ l. followed_by_line x (line_as l read)) same))
 
-  -- or it was refused, or there was no memory for it
-  pub is_refused : (n : ℕ) (d : LineFault) → blank ≡ false → (d ≢ fault.OutOfMemory → either_of_line text ≡ Err d) → IsRefusedAs line n (record { fault = d; line = n })
-  is_refused n d e as = record { number = refl; said = sym is.told ∙ e; fault = λ other. text_refused d (as other) }
+  -- or it was refused, or there was no memory to read it
+  pub is_refused : (n : ℕ) (d : LineFault) → blank ≡ false → LineFails d (either_of_line text) → IsRefusedAs line n (record { fault = d; line = n })
+  is_refused n d e fails = record { number = refl; said = sym is.told ∙ e; fault = λ other. text_refused d (given_fault d (either_of_line text) fails other) }
 
 -- ---- The lines that have ended.
+
+-- what is said of a value that is there
+pub of_some : {X : Type 0} (P : X → Type 0) {o : Option X} {x : X} → o ≡ Some x → IfSome o P → P x
+of_some P is said = subst (λ o. IfSome o P) is said
+
+-- the text of a line as it was handed over
+pub same_text : {line text seen : List ℕ} {blank told : Bool} → seen ≡ text → told ≡ blank → IsLineText line text blank → IsLineText line seen told
+same_text {line} {text} {seen} {blank} {told} is said has = subst (λ t. IsLineText line t told) (sym is) (subst (IsLineText line text) (sym said) has)
 
 -- one more is as many and one
 length_one : (lines : List (List ℕ)) (line : List ℕ) → length (lines ++ line ∷ []) ≡ length lines + 1
@@ -105,11 +120,10 @@ line_kept : (lines : List (List ℕ)) (line : List ℕ) (x next : Reading) → K
 line_kept lines line x next kept followed = λ more.
     line_first lines line x kept more ∙ turn (length lines + 1) line more x next followed ∙ ap (λ n. follow next (lines_from (n + 1) more)) (sym (length_one lines line))
 
-line_refused : (lines : List (List ℕ)) (line : List ℕ) (n : ℕ) (bad : ScenarioFault) (x : Reading) → n ≡ length lines → KeepsLines lines x → IsRefusedAs line (n + 1) bad → bad.fault ≢ fault.OutOfMemory
+line_refused : (lines : List (List ℕ)) (line : List ℕ) (n : ℕ) (bad : ScenarioFault) (x : Reading) → n ≡ length lines + 1 → IsRefusedAs line n bad → bad.fault ≢ fault.OutOfMemory
     → (more : List (List ℕ)) → follow x (lines_from (length lines + 1) (line ∷ more)) ≡ Err bad
-line_refused lines line n bad x count kept why other more =
-    refused (length lines + 1) line more bad.fault x why.said (why.fault other)
-    ∙ ap (λ k. Err (record { fault = bad.fault; line = k })) (ap (λ k. k + 1) (sym count) ∙ sym why.number)
+line_refused lines line n bad x count why other more =
+    refused (length lines + 1) line more bad.fault x why.said (why.fault other) ∙ ap (λ k. Err (record { fault = bad.fault; line = k })) (sym count ∙ sym why.number)
 
 scenario_pieces : (text : List ℕ) → scenario_of text ≡ scenario_from (lines_from 1 (pieces text))
 unfolding scenario_of
@@ -144,44 +158,44 @@ module _ {S : Type 0} (has_read : S → Reading → S → Type 0) (first : S) wh
       → LinesRead has_read first text n old s → LinesRead has_read first text n new s
   none_more text n old new s cut r = record { lines = r.lines; come = cut text r.lines r.come; count = r.count; reading = r.reading; read = r.read; kept = r.kept }
 
-  module _ (text : List ℕ) (n : ℕ) (old new : Lines) (s t : S) (p : Place) (r : LinesRead has_read first text n old s) (e : HasEnded (max_line + 1) text r.lines p new) where
+  module _ (text : List ℕ) (n m : ℕ) (old new : Lines) (s t : S) (p : Place) (next : m ≡ n + 1) (r : LinesRead has_read first text n old s) (e : HasEnded (max_line + 1) text r.lines p new) where
     -- a line ends, and is handed on
-    pub one_more : Hands has_read e.line s t → LinesRead has_read first text (n + 1) new t
+    pub one_more : Hands has_read e.line s t → LinesRead has_read first text m new t
     one_more hands =
         let y = hands first r.reading r.read in
         record {
           lines = r.lines ++ e.line ∷ [];
           come = e.come;
-          count = ap (λ k. k + 1) r.count ∙ sym (length_one r.lines e.line);
+          count = next ∙ ap (λ k. k + 1) r.count ∙ sym (length_one r.lines e.line);
           reading = y.0;
           read = y.1;
           kept = line_kept r.lines e.line r.reading y.0 r.kept y.2;
         }
 
     -- or it is refused
-    pub one_refused : (bad : ScenarioFault) → IsRefusedAs e.line (n + 1) bad → IsRefusedLine text bad
+    pub one_refused : (bad : ScenarioFault) → IsRefusedAs e.line m bad → IsRefusedLine text bad
     one_refused bad why = λ other more.
         scenario_pieces (text ++ more)
         ∙ ap (λ ps. scenario_from (lines_from 1 ps)) (come_pieces (max_line + 1) text (r.lines ++ e.line ∷ []) new e.come more)
         ∙ line_first r.lines e.line r.reading r.kept (pieces (e.come.torn ++ (ahead new ++ more)))
-        ∙ line_refused r.lines e.line n bad r.reading r.count r.kept why other (pieces (e.come.torn ++ (ahead new ++ more)))
+        ∙ line_refused r.lines e.line m bad r.reading (next ∙ ap (λ k. k + 1) r.count) why other (pieces (e.come.torn ++ (ahead new ++ more)))
 
   -- ---- The last line.
 
-  module _ (text : List ℕ) (n : ℕ) (l : Lines) (s t : S) (none : ahead l ≡ []) (r : LinesRead has_read first text n l s) where
+  module _ (text : List ℕ) (n : ℕ) (l : Lines) (s : S) (none : ahead l ≡ []) (r : LinesRead has_read first text n l s) where
     last_come : scenario_of text ≡ follow r.reading (lines_from (length r.lines + 1) (r.come.torn ∷ []))
     last_come = scenario_pieces text ∙ ap (λ ps. scenario_from (lines_from 1 ps)) ((come_cut (max_line + 1) text r.lines l none r.come).1) ∙ r.kept (r.come.torn ∷ [])
 
-    pub last_text : IsLineText r.come.torn l.torn.kept l.torn.blank
-    last_text = kept_text (max_line + 1) r.come.torn l.torn r.come.kept
+    pub last_text : (kept : List ℕ) (blank : Bool) → kept ≡ l.torn.kept → blank ≡ l.torn.blank → IsLineText r.come.torn kept blank
+    last_text kept blank is told = kept_text (max_line + 1) r.come.torn (record { kept = kept; blank = blank }) (record { kept = is ∙ r.come.kept.kept; blank = told ∙ r.come.kept.blank })
 
-    pub last_read : Hands has_read r.come.torn s t → IsReadBy has_read first text (Ok t)
-    last_read hands =
+    pub last_read : (t : S) → Hands has_read r.come.torn s t → IsReadBy has_read first text (Ok t)
+    last_read t hands =
         let y = hands first r.reading r.read in
         (y.0, y.1, last_come ∙ turn (length r.lines + 1) r.come.torn [] r.reading y.0 y.2 ∙ no_more (length r.lines + 1 + 1) y.0)
 
-    pub last_refused : (bad : ScenarioFault) → IsRefusedAs r.come.torn (n + 1) bad → IsReadBy has_read first text (Err bad)
-    last_refused bad why = λ other. last_come ∙ line_refused r.lines r.come.torn n bad r.reading r.count r.kept why other []
+    pub last_refused : (m : ℕ) (bad : ScenarioFault) → m ≡ n + 1 → IsRefusedAs r.come.torn m bad → IsReadBy has_read first text (Err bad)
+    last_refused m bad next why = λ other. last_come ∙ line_refused r.lines r.come.torn m bad r.reading (next ∙ ap (λ k. k + 1) r.count) why other []
 
   -- a line of the text before was refused
   pub refused_text : (text more : List ℕ) (bad : ScenarioFault) → IsRefusedLine text bad → IsReadBy has_read first (text ++ more) (Err bad)

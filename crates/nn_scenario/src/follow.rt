@@ -3,7 +3,7 @@ ghost use Rattle.std.specs.Prelude.{◌≡◌, ◌≤◌, ◌<◌, ◌+◌, ◌^
 ghost use Rattle.std.specs.Io.KnownBytes.{IsAtEnd};
 ghost use Rattle.nn_input.specs.Cut.{IsFresh, Refilled, ahead};
 ghost use Rattle.nn_scenario.specs.Chunks.{Hands, IsReadBy, IsRefusedLine};
-ghost use Rattle.nn_scenario.specs.Follow.{CameWithin, IsLeftUnread, IsLineText, IsRefusedAs, LinesRead, sink_unless};
+ghost use Rattle.nn_scenario.specs.Follow.{CameWithin, IsLeftUnread, IsLineText, IsRefusedAs, LinesRead, ReadsOn, sink_unless};
 ghost use Rattle.nn_scenario.specs.Reading.{nothing_read};
 ghost use Rattle.nn_segment.specs.Lines.{is_unbroken};
 ghost use Rattle.nn_types.specs.Limits.{max_input};
@@ -123,8 +123,7 @@ impl LineReader {
         requires come { (first : S) × (text : List ℕ) × LinesRead S.has_read first text self.old lines.old sink.old }
         requires few { self.old + length (ahead lines.old) ≤ max_input }
         requires count { S.count sink.old ≤ self.old }
-        ensures read { IfOk result (λ bad. bad ≡ None → (first : S) (text : List ℕ)
-            → LinesRead S.has_read first text self.old lines.old sink.old → LinesRead S.has_read first text self.new lines.new sink.new) }
+        ensures read { IfOk result (λ bad. bad ≡ None → ReadsOn S.has_read self.old lines.old sink.old self.new lines.new sink.new) }
         ensures all { IfOk result (λ bad. bad ≡ None → ahead lines.new ≡ []) }
         ensures bad { IfOk result (λ bad. IfSome bad (λ e. (first : S) (text : List ℕ)
             → LinesRead S.has_read first text self.old lines.old sink.old → IsRefusedLine text e)) }
@@ -184,10 +183,10 @@ impl LineReader {
             Ok(read) => read,
             Err(fault) => return Err(ScenarioFault { fault, line }),
         };
-        match sink.line(self.alloc, text, read) {
-            Ok(()) => Ok(()),
-            Err(_) => Err(no_memory(line)),
+        if let Err(_) = sink.line(self.alloc, text, read) {
+            return Err(no_memory(line));
         }
+        Ok(())
     }
 }
 

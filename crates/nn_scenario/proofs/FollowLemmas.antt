@@ -1,5 +1,5 @@
 -- Lines that are handed on as they end.
-use Rattle.std.proofs.Common.{◌≡◌, ◌⊎◌, inl, inr, ℕ, suc, ◌+◌, ◌<◌, ◌≤◌, List, [], ◌∷◌, ◌++◌, length, take, drop, Bool, true, false, cond, not, eqb, Option, None, Some, Result, Ok, Err, refl, sym, ap, subst, ◌∙◌, arith, append_assoc}
+use Rattle.std.proofs.Common.{◌≡◌, ◌⊎◌, inl, inr, ℕ, suc, ◌+◌, ◌<◌, ◌≤◌, List, [], ◌∷◌, ◌++◌, length, take, drop, Bool, true, false, cond, not, eqb, Option, None, Some, Result, Ok, Err, refl, sym, ap, subst, ◌∙◌, arith, append_assoc, append-nil}
 use Rattle.std.specs.Prelude.{◌≢◌, IfSome, option_and_then}
 use Rattle.std.specs.Bool.{MatchBool}
 use Rattle.std.specs.List.{list_all}
@@ -19,11 +19,11 @@ use Rattle.nn_edits.specs.declared.line.Line.{Line}
 use Rattle.nn_input.specs.Cut.{Came, HasCome, HasEnded, IsFresh, Lines, Refilled, ahead}
 use Rattle.nn_input.specs.Pieces.{joined_lines, pieces}
 use Rattle.nn_input.specs.declared.lines.Place.{Place}
-use Rattle.nn_input.proofs.Cuts.{come_both, come_cut, come_pieces, comes_ahead, kept_text}
+use Rattle.nn_input.proofs.Cuts.{come_both, come_cut, come_pieces, comes_ahead, kept_text, none_came}
 use Rattle.nn_segment.specs.Lines.{is_unbroken}
 use Rattle.nn_scenario.specs.Chunks.{Hands, IsReadBy, IsRefusedLine, follow}
 use Rattle.nn_scenario.specs.Cut.{last_part}
-use Rattle.nn_scenario.specs.Follow.{CameWithin, IsLeftUnread, IsLineText, IsRefusedAs, KeepsLines, LinesRead, sink_unless}
+use Rattle.nn_scenario.specs.Follow.{CameWithin, IsLeftUnread, IsLineText, IsRefusedAs, KeepsLines, LinesRead}
 use Rattle.nn_scenario.specs.Reading.{IsFollowed, Reading, followed_by_line, nothing_read}
 use Rattle.nn_scenario.specs.Scenario.{ScenarioLine, is_blank, line_as, lines_from, scenario_from, scenario_of, scenario_with}
 use Rattle.nn_scenario.specs.declared.follow.ReadLinesFault.{ReadLinesFault}
@@ -227,29 +227,36 @@ within_both most left start bytes more a b c came room w = record {
   within = omega (arith, w.within, room, length-append start bytes, length-append start (bytes ++ more), length-append bytes more);
 }
 
-module _ {S : Type 0} (has_read : S → Reading → S → Type 0) (first : S) (start : List ℕ) (before mid after : Reader) (left left' n m : ℕ) (old cut new : Lines) (s t : S) (x : SoFar has_read first start before mid left n old s) where
-  pub few_so_far : n + length (ahead old) ≤ max_input
-  few_so_far = omega (arith, x.room, few_lines has_read first (start ++ x.bytes) n old s x.read)
-
-  -- a read more
-  pub read_more : LinesRead has_read first (start ++ x.bytes) m cut t → ahead cut ≡ [] → Refilled mid after cut new → left ≡ left' + length (ahead new) → SoFar has_read first start before after left' m new t
-  read_more r none f room = record {
-    bytes = x.bytes ++ f.bytes;
-    came = come_both before mid after x.bytes f.bytes x.came f.came;
-    room = omega (arith, x.room, room, ap length f.are, length-append start x.bytes, length-append start (x.bytes ++ f.bytes), length-append x.bytes f.bytes);
-    read = subst (λ text. LinesRead has_read first text m new t) (append_assoc start x.bytes f.bytes) (more_come has_read first (start ++ x.bytes) m mid after cut new t r none f);
+module _ {S : Type 0} {has_read : S → Reading → S → Type 0} {first : S} where
+  -- nothing has come
+  pub nothing_so_far : (r : Reader) (left n : ℕ) (l : Lines) → IsFresh l → has_read first nothing_read first → n ≡ 0 → left + length (ahead l) ≡ max_input → SoFar has_read first (ahead l) r r left n l first
+  nothing_so_far r left n l fresh new none room = record {
+    bytes = [];
+    came = none_came r;
+    room = ap (λ text. left + length text) (append-nil (ahead l)) ∙ room;
+    read =
+        subst (λ text. LinesRead has_read first text n l first) (sym (append-nil (ahead l)))
+        (subst (λ k. LinesRead has_read first (ahead l) k l first) (sym none) (nothing_come has_read first l fresh new));
   }
 
-  -- a line is refused, and the rest is read
-  pub read_rest : (bad : ScenarioFault) → IsRefusedLine (start ++ x.bytes) bad → (more : List ℕ) × CameWithin left [] mid after more
-      → (bytes : List ℕ) × CameWithin max_input start before after bytes × IsReadBy has_read first (start ++ bytes) (sink_unless (Some bad) t)
-  read_rest bad is (more, w) = (
-    x.bytes ++ more,
-    within_both max_input left start x.bytes more before mid after x.came x.room w,
-    subst (λ text. IsReadBy has_read first text (Err bad)) (append_assoc start x.bytes more) (refused_text has_read first (start ++ x.bytes) more bad is),
-  )
+  module _ {start : List ℕ} {a b : Reader} {left n : ℕ} {old : Lines} {s : S} (x : SoFar has_read first start a b left n old s) where
+    pub few_so_far : n + length (ahead old) ≤ max_input
+    few_so_far = omega (arith, x.room, few_lines has_read first (start ++ x.bytes) n old s x.read)
 
-  -- nothing is left
-  pub read_all : (bad : Option ScenarioFault) → IsReadBy has_read first (start ++ x.bytes) (sink_unless bad t)
-      → (bytes : List ℕ) × CameWithin max_input start before mid bytes × IsReadBy has_read first (start ++ bytes) (sink_unless bad t)
-  read_all bad is = (x.bytes, record { came = x.came; within = omega (arith, x.room) }, is)
+    -- a read more
+    pub read_more : {c : Reader} {left' m : ℕ} {cut new : Lines} {t : S} → LinesRead has_read first (start ++ x.bytes) m cut t → ahead cut ≡ [] → Refilled b c cut new → left ≡ left' + length (ahead new) → SoFar has_read first start a c left' m new t
+    read_more {c} {left'} {m} {cut} {new} {t} r none f room = record {
+      bytes = x.bytes ++ f.bytes;
+      came = come_both a b c x.bytes f.bytes x.came f.came;
+      room = omega (arith, x.room, room, ap length f.are, length-append start x.bytes, length-append start (x.bytes ++ f.bytes), length-append x.bytes f.bytes);
+      read = subst (λ text. LinesRead has_read first text m new t) (append_assoc start x.bytes f.bytes) (more_come has_read first (start ++ x.bytes) m b c cut new t r none f);
+    }
+
+    -- a line is refused, and the rest is read
+    pub read_rest : (c : Reader) (bad : ScenarioFault) → IsRefusedLine (start ++ x.bytes) bad → (more : List ℕ) × CameWithin left [] b c more
+        → (bytes : List ℕ) × CameWithin max_input start a c bytes × IsReadBy has_read first (start ++ bytes) (Err bad)
+    read_rest c bad is (more, w) = (
+      x.bytes ++ more,
+      within_both max_input left start x.bytes more a b c x.came x.room w,
+      subst (λ text. IsReadBy has_read first text (Err bad)) (append_assoc start x.bytes more) (refused_text has_read first (start ++ x.bytes) more bad is),
+    )

@@ -1,5 +1,5 @@
 //! A scenario that a reader gives: each line is read and handed on as soon as it has ended.
-ghost use Rattle.std.specs.Prelude.{◌≡◌, ◌≤◌, ◌<◌, ◌+◌, ◌^◌, [], List, ℕ, true, false, length, None, IfOk, IfErr, IfSome, OnOk};
+ghost use Rattle.std.specs.Prelude.{◌≡◌, ◌≤◌, ◌<◌, ◌+◌, ◌^◌, ◌++◌, [], List, ℕ, true, false, length, None, IfOk, IfErr, IfSome, OnOk};
 ghost use Rattle.std.specs.Io.KnownBytes.{IsAtEnd};
 ghost use Rattle.nn_input.specs.Cut.{IsFresh, Refilled, ahead};
 ghost use Rattle.nn_scenario.specs.Chunks.{Hands, IsReadBy, IsRefusedLine};
@@ -83,7 +83,10 @@ pub fn pass_to_end<R: Read>(lines: &mut Lines, input: &mut Reader<R>) -> Result<
     ensures few { input.new.given ≤ input.old.given + (max_input + 2 ^ 16) }
 {
     let room = MAX_INPUT - lines.left();
-    read_to_end(lines, input, room)
+    if let Err(fault) = read_to_end(lines, input, room) {
+        return Err(fault);
+    }
+    Ok(())
 }
 
 // The lines of a scenario that have ended: how many there are, and what one is read with.

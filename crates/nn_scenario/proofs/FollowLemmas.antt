@@ -74,6 +74,7 @@ module _ (line text : List ℕ) (blank : Bool) (is : IsLineText line text blank)
     where
       first : is_unbroken (take (max_line + 1) line) ≡ true
       first = (and_parts _ _ (sym (list_all-append (λ b. not (eqb b line_feed)) (take (max_line + 1) line) (drop (max_line + 1) line)) ∙ ap is_unbroken (take-append-drop (max_line + 1) line) ∙ whole)).0
+
       at : (text ≡ line) ⊎ ((max_line + 1 ≤ length line) × (text ≡ take (max_line + 1) line) × (blank ≡ is_blank line)) → is_unbroken text ≡ true
       at (inl same) = ap is_unbroken same ∙ whole
       at (inr (long, cut, told)) = ap is_unbroken cut ∙ first
@@ -83,9 +84,12 @@ module _ (line text : List ℕ) (blank : Bool) (is : IsLineText line text blank)
       → ((first : S) (x : Reading) → has_read first x s → has_read first (followed_by_line x (line_as text read)) t) → Hands has_read line s t
   read_hands has_read s t read e got took = λ first x h.
       let same : text ≡ line = text_read read got in
-      let next : Reading = followed_by_line x (line_as text read) in
-      (next, took first x h, subst (λ b. MatchBool b (next ≡ x) ((read : Line) × (either_of_line line ≡ Ok read) × (next ≡ followed_by_line x (line_as line read)))) (sym e ∙ is.told)
-      (read, ap either_of_line (sym same) ∙ got, ap (λ l. followed_by_line x (line_as l read)) same))
+      let next : Reading = followed_by_line x (line_as text read) in (
+        next,
+        took first x h,
+        subst (λ b. MatchBool b (next ≡ x) ((read : Line) × (either_of_line line ≡ Ok read) × (next ≡ followed_by_line x (line_as line read)))) (sym e ∙ is.told)
+            (read, ap either_of_line (sym same) ∙ got, ap (λ l. followed_by_line x (line_as l read)) same),
+      )
 
   -- or it was refused, or there was no memory to read it
   pub is_refused : (n : ℕ) (d : LineFault) → blank ≡ false → LineFails d (either_of_line text) → IsRefusedAs line n (record { fault = d; line = n })

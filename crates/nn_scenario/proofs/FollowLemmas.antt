@@ -1,8 +1,7 @@
 -- Lines that are handed on as they end.
-use Rattle.std.proofs.Common.{◌≡◌, ◌⊎◌, inl, inr, ℕ, suc, ◌+◌, ◌<◌, ◌≤◌, List, [], ◌∷◌, ◌++◌, length, take, drop, Bool, true, false, cond, not, eqb, Option, None, Some, Result, Ok, Err, refl, sym, ap, subst, ◌∙◌, arith, append_assoc, append-nil}
+use Rattle.std.proofs.Common.{◌≡◌, ◌⊎◌, inl, inr, ℕ, ◌+◌, ◌<◌, ◌≤◌, List, [], ◌∷◌, ◌++◌, length, take, drop, Bool, true, false, cond, not, eqb, Option, Some, Result, Ok, Err, refl, sym, ap, subst, ◌∙◌, arith, append_assoc, append-nil}
 use Rattle.std.specs.Prelude.{◌≢◌, IfSome, option_and_then}
 use Rattle.std.specs.Bool.{MatchBool}
-use Rattle.std.specs.List.{list_all}
 use Rattle.std.specs.Option.{ok_or}
 use Rattle.std.specs.Result.{is_ok}
 use Rattle.std.proofs.lemmas.Bool.{and_parts, lt-ltb}
@@ -22,10 +21,9 @@ use Rattle.nn_input.specs.declared.lines.Place.{Place}
 use Rattle.nn_input.proofs.Cuts.{come_both, come_cut, come_pieces, comes_ahead, kept_text, none_came}
 use Rattle.nn_segment.specs.Lines.{is_unbroken}
 use Rattle.nn_scenario.specs.Chunks.{Hands, IsReadBy, IsRefusedLine, follow}
-use Rattle.nn_scenario.specs.Cut.{last_part}
 use Rattle.nn_scenario.specs.Follow.{CameWithin, IsLeftUnread, IsLineText, IsRefusedAs, KeepsLines, LinesRead}
 use Rattle.nn_scenario.specs.Reading.{IsFollowed, Reading, followed_by_line, nothing_read}
-use Rattle.nn_scenario.specs.Scenario.{ScenarioLine, is_blank, line_as, lines_from, scenario_from, scenario_of, scenario_with}
+use Rattle.nn_scenario.specs.Scenario.{ScenarioLine, is_blank, line_as, lines_from, scenario_from, scenario_of}
 use Rattle.nn_scenario.specs.declared.follow.ReadLinesFault.{ReadLinesFault}
 use Rattle.nn_scenario.specs.declared.follow.ReadLinesFault.TheVariants as unread
 use Rattle.nn_scenario.specs.declared.scenario.ScenarioFault.{ScenarioFault}

@@ -49,8 +49,8 @@ pub record LinesRead {S : Type 0} (has_read : S → Reading → S → Type 0) (f
   pub kept : KeepsLines lines reading
 
 -- of each text so many lines have ended further on, and are read as well
-abbrev pub ReadsOn : {S : Type 0} → (S → Reading → S → Type 0) → ℕ → Lines → S → ℕ → Lines → S → Type 0
-ReadsOn {S} has_read n l s n' l' s' = (first : S) (text : List ℕ) → LinesRead has_read first text n l s → LinesRead has_read first text n' l' s'
+abbrev pub LinesReadOn : {S : Type 0} → (S → Reading → S → Type 0) → ℕ → Lines → S → ℕ → Lines → S → Type 0
+LinesReadOn {S} has_read n l s n' l' s' = (first : S) (text : List ℕ) → LinesRead has_read first text n l s → LinesRead has_read first text n' l' s'
 
 -- the text of a line, as far as one is kept that is too long, and whether the line is blank
 abbrev pub IsLineText : List ℕ → List ℕ → Bool → Type 0

@@ -3,7 +3,7 @@ ghost use Rattle.std.specs.Prelude.{◌≡◌, ◌≤◌, ◌<◌, ◌+◌, ◌^
 ghost use Rattle.std.specs.Io.KnownBytes.{IsAtEnd};
 ghost use Rattle.nn_input.specs.Cut.{IsFresh, Refilled, ahead};
 ghost use Rattle.nn_scenario.specs.Chunks.{Hands, IsReadBy, IsRefusedLine};
-ghost use Rattle.nn_scenario.specs.Follow.{CameWithin, IsLeftUnread, IsLineText, IsRefusedAs, LinesRead, ReadsOn, sink_unless};
+ghost use Rattle.nn_scenario.specs.Follow.{CameWithin, IsLeftUnread, IsLineText, IsRefusedAs, LinesRead, LinesReadOn, sink_unless};
 ghost use Rattle.nn_scenario.specs.Reading.{nothing_read};
 ghost use Rattle.nn_segment.specs.Lines.{is_unbroken};
 ghost use Rattle.nn_types.specs.Limits.{max_input};
@@ -126,7 +126,7 @@ impl LineReader {
         requires come { (first : S) × (text : List ℕ) × LinesRead S.has_read first text self.old lines.old sink.old }
         requires few { self.old + length (ahead lines.old) ≤ max_input }
         requires count { S.count sink.old ≤ self.old }
-        ensures read { IfOk result (λ bad. bad ≡ None → ReadsOn S.has_read self.old lines.old sink.old self.new lines.new sink.new) }
+        ensures read { IfOk result (λ bad. bad ≡ None → LinesReadOn S.has_read self.old lines.old sink.old self.new lines.new sink.new) }
         ensures all { IfOk result (λ bad. bad ≡ None → ahead lines.new ≡ []) }
         ensures bad { IfOk result (λ bad. IfSome bad (λ e. (first : S) (text : List ℕ)
             → LinesRead S.has_read first text self.old lines.old sink.old → IsRefusedLine text e)) }

@@ -1,4 +1,5 @@
 use Rattle.std.proofs.Common.{arith}
+use Rattle.nn_input.specs.Cut.{line_blank}
 use Rattle.nn_scenario.proofs.FollowLemmas.{of_some, one_more, one_refused, same_text}
 use Rattle.nn_scenario.proofs.follow.LineReader.take_lines.Goals as goal
 
@@ -14,7 +15,7 @@ returns-in-Err-clause-bad g c = λ first text before.
     let r = c.cuts.invariant.read first text before in
     let ended = of_some _ c.in-Some.is c.in-Ok.ensures.line text r.lines r.come in
     one_refused g.S.LineSink.has_read first text c.cuts.self c.take.new.self c.cuts.lines c.cut.new.self c.cuts.sink c.take.new.sink c.in-Some.place c.take.ensures.ended r ended c.in-Err.bad
-    (c.in-Err.ensures.bad ended.line (same_text c.text.ensures c.is_blank.ensures ended.text))
+    (c.in-Err.ensures.bad ended.line (same_text {blank = line_blank c.cut.new.self c.in-Some.place} c.text.ensures c.is_blank.ensures ended.text))
 
 pub cuts-preserved : goal.cuts-preserved
 cuts-preserved g c = record {

@@ -15,7 +15,7 @@ use Rattle.nn_edits.specs.Reading.{either_in, either_of_line, object_in, object_
 use Rattle.nn_edits.specs.declared.fault.LineFault.{LineFault}
 use Rattle.nn_edits.specs.declared.fault.LineFault.TheVariants as fault
 use Rattle.nn_edits.specs.declared.line.Line.{Line}
-use Rattle.nn_input.specs.Cut.{Came, HasCome, HasEnded, IsFresh, Lines, Refilled, ahead}
+use Rattle.nn_input.specs.Cut.{Came, HasEnded, IsFresh, Lines, Refilled, ahead}
 use Rattle.nn_input.specs.Pieces.{joined_lines, pieces}
 use Rattle.nn_input.specs.declared.lines.Place.{Place}
 use Rattle.nn_input.proofs.Cuts.{come_both, come_cut, come_pieces, comes_ahead, kept_text, none_came}
@@ -154,11 +154,6 @@ module _ {S : Type 0} (has_read : S → Reading → S → Type 0) (first : S) wh
     read = r.read;
     kept = r.kept;
   }
-
-  -- no line ends in them
-  pub none_more : (text : List ℕ) (n : ℕ) (old new : Lines) (s : S) → ((text : List ℕ) (lines : List (List ℕ)) → HasCome (max_line + 1) text lines old → HasCome (max_line + 1) text lines new)
-      → LinesRead has_read first text n old s → LinesRead has_read first text n new s
-  none_more text n old new s cut r = record { lines = r.lines; come = cut text r.lines r.come; count = r.count; reading = r.reading; read = r.read; kept = r.kept }
 
   module _ (text : List ℕ) (n m : ℕ) (old new : Lines) (s t : S) (p : Place) (next : m ≡ n + 1) (r : LinesRead has_read first text n old s) (e : HasEnded (max_line + 1) text r.lines p new) where
     -- a line ends, and is handed on

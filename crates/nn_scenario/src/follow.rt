@@ -35,7 +35,8 @@ pub enum ReadLinesFault {
 
 /// Reads a scenario to the reader's end, and hands each line to the sink as soon as it has ended, up to the first that is
 /// refused: that line is the answer. Behind it the input is read on, since one that can't be read is told first. The last line may
-/// lack its line feed. What is read of a line is kept no longer than the line, and no more of one that is too long.
+/// lack its line feed. No line is kept behind its end, and of one that is too long 65,537 bytes at most. After a fault of the input
+/// discard the sink too: nothing is said of how far it came.
 pub fn follow_lines<R: Read, S: LineSink>(
     alloc: Global,
     lines: &mut Lines,

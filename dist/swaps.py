@@ -83,8 +83,10 @@ class Swaps:
 
     def without(self):
         """The clone has no release, not even the one that is in the repository."""
-        shutil.rmtree(os.path.join(self.top, "releases"), ignore_errors=True)
-        self.commit()
+        releases = os.path.join(self.top, "releases")
+        if os.path.isdir(releases):
+            shutil.rmtree(releases)
+            self.commit()
 
     def run(self):
         self.without()

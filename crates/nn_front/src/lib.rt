@@ -2,5 +2,7 @@
 #![tactic(auto)]
 
 mod front;
+mod pull;
 
 pub use front::{Front, FrontFault, Loaded, MAX_PASSED};
+pub use pull::{FrontImage, LoadFault, load_front};

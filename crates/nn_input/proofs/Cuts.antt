@@ -9,7 +9,7 @@ use Rattle.nn_bytes.specs.Lines.{line_feed}
 use Rattle.nn_input.specs.Blank.{is_blank, is_blank_byte}
 use Rattle.nn_input.specs.Pieces.{is_unbroken, joined_lines, pieces}
 use Rattle.nn_input.proofs.PieceLemmas.{each_more, ends, joined_more, lines_first, one_piece, unbroken_both}
-use Rattle.nn_input.specs.Cut.{TornBytes, Lines, Came, HasCome, HasEnded, IsCutTo, IsTextOf, KeepsFirst, NextEnded, ReadOn, Refilled, ahead, line_text, no_bytes}
+use Rattle.nn_input.specs.Cut.{TornBytes, Lines, Came, HasCome, HasEnded, IsCutTo, IsFresh, IsTextOf, KeepsFirst, NextEnded, ReadOn, Refilled, ahead, line_text, no_bytes}
 use Rattle.nn_input.specs.declared.lines.Place.{Place}
 use Rattle.nn_input.specs.declared.lines.Place.TheVariants as place
 use Rattle.nn_input.proofs.Firsts.{all_window, cut_window}
@@ -40,6 +40,13 @@ keeps_more most torn bytes x y has is blank = record {
 keeps_none : (most : ℕ) → KeepsFirst most [] no_bytes
 keeps_none zero = record { kept = refl; blank = refl }
 keeps_none (suc n) = record { kept = refl; blank = refl }
+
+take_none : (n : ℕ) → take {A = ℕ} n [] ≡ []
+take_none zero = refl
+take_none (suc n) = refl
+
+kept_nothing : (most : ℕ) (x : TornBytes) → KeepsFirst most [] x → x ≡ no_bytes
+kept_nothing most x has = let none = has.kept ∙ take_none most in λ j. record { kept = none j; blank = has.blank j }
 
 -- nothing is kept of nothing alone
 none_torn : (most : ℕ) (torn : List ℕ) (x : TornBytes) → 1 ≤ most → KeepsFirst most torn x → length x.kept ≡ 0 → torn ≡ []
@@ -141,6 +148,7 @@ read_line most bytes lines start end text old new some none whole cut same there
       come = one_ends most bytes lines text old new whole cut (subst (KeepsFirst most []) (sym same) (subst (λ t. KeepsFirst most t old.torn) empty h.kept)) h;
       unbroken = unbroken_both h.torn text h.unbroken whole;
       text = record { is = inl (there ∙ sym line) };
+      fresh = same ∙ kept_nothing most old.torn (subst (λ t. KeepsFirst most t old.torn) empty h.kept);
     }
 
 -- or in more than one
@@ -151,7 +159,20 @@ kept_line most bytes lines text old new whole cut none keeps h = record {
   come = one_ends most bytes lines text old new whole cut (subst (KeepsFirst most []) (sym none) (keeps_none most)) h;
   unbroken = unbroken_both h.torn text h.unbroken whole;
   text = kept_text most (h.torn ++ text) new.last (keeps h.torn h.kept);
+  fresh = none;
 }
+
+-- ---- Where a line begins.
+
+-- what is ahead is all that came
+pub come_ahead : (most : ℕ) (l : Lines) → IsFresh l → HasCome most (ahead l) [] l
+come_ahead most l fresh = record { torn = []; joined = refl; each = refl; unbroken = refl; kept = subst (KeepsFirst most []) (sym fresh) (keeps_none most) }
+
+-- and behind lines it is the rest
+pub lines_come : (most : ℕ) (bytes : List ℕ) (lines : List (List ℕ)) (l : Lines) → 1 ≤ most → IsFresh l → HasCome most bytes lines l → bytes ≡ joined_lines lines ++ ahead l
+lines_come most bytes lines l some fresh h =
+    let none : h.torn ≡ [] = none_torn most h.torn l.torn some h.kept (ap (λ (t : TornBytes). length t.kept) fresh) in
+    h.joined ∙ ap (λ t. joined_lines lines ++ (t ++ ahead l)) none
 
 -- ---- Bytes come.
 

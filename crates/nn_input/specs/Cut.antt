@@ -1,5 +1,5 @@
 -- The bytes of an input, cut into lines as they come.
-use Rattle.std.specs.Prelude.{◌≡◌, ◌⊎◌, ◌≤◌, ◌+◌, ◌-◌, ℕ, List, [], ◌∷◌, ◌++◌, length, take, drop, Bool, true}
+use Rattle.std.specs.Prelude.{◌≡◌, ◌⊎◌, ◌≤◌, ◌+◌, ◌-◌, ◌^◌, ℕ, List, [], ◌∷◌, ◌++◌, length, take, drop, Bool, true}
 use Rattle.std.specs.List.{list_all}
 use Rattle.std.specs.Io.KnownBytes.{Consumes}
 use Rattle.nn_device.specs.Device.{Reader}
@@ -36,6 +36,10 @@ pub record Lines : Type 0 where
 abbrev pub ahead : Lines → List ℕ
 ahead l = take (l.to - l.from) (drop l.from l.buffer)
 
+-- of the line in hand nothing came yet
+abbrev pub IsFresh : Lines → Type 0
+IsFresh l = l.torn ≡ no_bytes
+
 -- the text of a line that has ended
 abbrev pub line_text : Lines → Place → List ℕ
 line_text l (place.Read start end) = take (end - start) (drop start l.buffer)
@@ -65,6 +69,7 @@ pub record HasEnded (most : ℕ) (bytes : List ℕ) (lines : List (List ℕ)) (p
   pub come : HasCome most bytes (lines ++ line ∷ []) l
   pub unbroken : is_unbroken line ≡ true
   pub text : IsTextOf most line (line_text l p) l.last.blank
+  pub fresh : IsFresh l
 
 -- no line more has ended
 abbrev pub IsCutTo : ℕ → Lines → Lines → Type 0
@@ -94,6 +99,10 @@ pub record ReadOn (most : ℕ) (before after : Reader) (old new : Lines) : Type 
   pub bytes : List ℕ
   pub came : Came before after bytes
   pub goes_on : (earlier : List ℕ) (lines : List (List ℕ)) → HasCome most earlier lines old → HasCome most (earlier ++ bytes) lines new
+
+-- At most so many bytes will be cut of a reader, which is given up once it gave 2^62, and of what it gave before. Each line makes it fewer.
+abbrev pub still_to_cut : Reader → Lines → ℕ
+still_to_cut r l = (2 ^ 62 + 2 ^ 16 - r.given) + length (ahead l)
 
 -- the fault tells of a failed read just where one was noted
 abbrev pub IsToldOf : LinesFault → Bool → Bool → Type 0

@@ -1,7 +1,7 @@
 //! The lines of a reader, one after another.
 ghost use Rattle.std.specs.Prelude.{◌≡◌, ◌≤◌, ◌<◌, ◌+◌, ◌^◌, [], ◌∷◌, List, ℕ, false, length, IfOk, IfErr, IfSome, None, true};
 ghost use Rattle.std.specs.Io.KnownBytes.{IsAtEnd};
-ghost use Rattle.nn_input.specs.Cut.{HasCome, HasEnded, IsCutTo, IsThere, IsToldOf, NextEnded, ReadOn, Refilled, ahead, line_text};
+ghost use Rattle.nn_input.specs.Cut.{HasCome, HasEnded, IsCutTo, IsFresh, IsThere, IsToldOf, NextEnded, ReadOn, Refilled, ahead, line_text, still_to_cut};
 
 use crate::fault::LinesFault;
 use crate::torn::TornBytes;
@@ -51,7 +51,8 @@ impl Model for Lines {
 impl Lines {
     /// No bytes.
     pub fn new(alloc: Global) -> Result<Lines, AllocError>
-        ensures { IfOk result (λ l. (most : ℕ) → HasCome most [] [] l) }
+        ensures come { IfOk result (λ l. (most : ℕ) → HasCome most [] [] l) }
+        ensures fresh { IfOk result (λ l. IsFresh l × (ahead l ≡ [])) }
     {
         let buffer = new_buffer(alloc, BUFFER)?;
         Ok(Lines {
@@ -104,6 +105,7 @@ impl Lines {
         ensures some { IfOk result (λ more. more ≡ true → (input.old.given < input.new.given) × (input.old.given < 2 ^ 62)) }
         ensures end { IfOk result (λ more. more ≡ false → IsAtEnd input.new.left) }
         ensures none { IfOk result (λ more. more ≡ false → ahead self.new ≡ []) }
+        ensures few { input.new.given ≤ input.old.given + 2 ^ 16 }
         ensures failed { IfErr result (λ _. input.new.failed ≡ true) }
     {
         let Ok(n) = input.read(&mut self.buffer) else {
@@ -127,6 +129,7 @@ impl Lines {
         ensures taken { IfOk result (λ found. IfSome found (λ _.
             input.old.given + (length (ahead self.new) + 1) ≤ input.new.given + length (ahead self.old))) }
         ensures few { IfOk result (λ found. IfSome found (λ _. length (ahead self.new) ≤ 2 ^ 16)) }
+        ensures shorter { IfOk result (λ found. IfSome found (λ _. still_to_cut input.new self.new < still_to_cut input.old self.old)) }
         ensures end { IfOk result (λ found. found ≡ None → ReadOn most input.old input.new self.old self.new) }
         ensures whole { IfOk result (λ found. found ≡ None → IsAtEnd input.new.left × (ahead self.new ≡ [])) }
         ensures told { IfErr result (λ fault. IsToldOf fault input.old.failed input.new.failed) }
@@ -152,6 +155,8 @@ impl Lines {
         ensures read { IfOk result (λ _. (most : ℕ) → ReadOn most input.old input.new self.old self.new) }
         ensures byte { IfOk result (λ found. IfSome found (λ b. (rest : List ℕ) × (ahead self.new ≡ b ∷ rest))) }
         ensures none { IfOk result (λ found. found ≡ None → IsAtEnd input.new.left × (ahead self.new ≡ [])) }
+        ensures torn { IfOk result (λ _. self.new.torn ≡ self.old.torn) }
+        ensures few { input.new.given ≤ input.old.given + 2 ^ 16 }
         ensures failed { IfErr result (λ _. input.new.failed ≡ true) }
     {
         if self.from < self.to {
@@ -174,10 +179,19 @@ impl Lines {
         input.given() - (self.to - self.from) as u64
     }
 
+    /// How many bytes were read and are not cut.
+    pub fn ahead(&self) -> usize
+        ensures count { result ≡ length (ahead self.now) }
+        ensures few { result ≤ 2 ^ 16 }
+    {
+        self.to - self.from
+    }
+
     /// The text of the line that has just ended.
     pub fn text(&self, place: Place) -> &[u8]
         requires { IsThere place self.now }
-        ensures { result.now ≡ line_text self.now place }
+        ensures text { result.now ≡ line_text self.now place }
+        ensures fits { length result.now < 2 ^ 63 }
     {
         match place {
             Place::Read(start, end) => &self.buffer[start..end],
@@ -190,6 +204,15 @@ impl Lines {
         ensures { result.now ≡ self.now.torn.kept }
     {
         self.torn.as_slice()
+    }
+
+    /// Lets the bytes that are kept go, with their memory. What comes next begins a line.
+    pub fn let_go(&mut self, alloc: Global)
+        ensures fresh { IsFresh self.new }
+        ensures same { ahead self.new ≡ ahead self.old }
+    {
+        self.torn = TornBytes::none(alloc);
+        self.last = TornBytes::none(alloc);
     }
 }
 

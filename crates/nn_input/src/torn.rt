@@ -1,5 +1,5 @@
 //! The bytes behind the last line feed.
-ghost use Rattle.std.specs.Prelude.{◌≡◌, ◌-◌, ◌++◌, [], List, ℕ, length, take, OnOk};
+ghost use Rattle.std.specs.Prelude.{◌≡◌, ◌<◌, ◌-◌, ◌^◌, ◌++◌, [], List, ℕ, length, take, OnOk};
 ghost use Rattle.nn_input.specs.Cut.{KeepsFirst, no_bytes};
 
 use crate::blank::is_blank;
@@ -34,7 +34,8 @@ impl TornBytes {
 
     /// Those that are kept.
     pub(crate) fn as_slice(&self) -> &[u8]
-        ensures { result.now ≡ self.now.kept }
+        ensures kept { result.now ≡ self.now.kept }
+        ensures fits { length result.now < 2 ^ 63 }
     {
         &self.kept
     }

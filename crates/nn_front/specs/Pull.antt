@@ -1,0 +1,141 @@
+-- The image in front of an input's lines, which are asked for one after another.
+use Rattle.std.specs.Prelude.{◌≡◌, ◌<◌, ◌≤◌, ◌+◌, ◌-◌, ◌^◌, ℕ, List, [], ◌∷◌, ◌++◌, length, Bool, true, false, not, ◌&&◌, Option, Some, None, Result, Ok, Err}
+use Rattle.std.specs.List.{list_all}
+use Rattle.std.specs.Str.{bytes_eq}
+use Rattle.std.specs.Io.KnownBytes.{IsAtEnd}
+use Rattle.nn_device.specs.Device.{Reader}
+use Rattle.nn_model.specs.Namespace.{Namespace}
+use Rattle.nn_input.specs.Cut.{Came, HasCome, IsFresh, Lines, ahead}
+use Rattle.nn_input.specs.Pieces.{joined_lines}
+use Rattle.nn_input.specs.declared.fault.LinesFault.{LinesFault}
+use Rattle.nn_input.specs.declared.fault.LinesFault.TheVariants as lines
+use Rattle.nn_image.specs.Loading.{Loading, at_header, in_rows, behind_end, refused, is_first, loaded_from}
+use Rattle.nn_image.specs.Reading.{pieces_of, read_image}
+use Rattle.nn_image.specs.declared.fault.ImageFault.{ImageFault}
+use Rattle.nn_front.specs.Cut.{begins_object, divided, from_header, image_cut_from, image_read, mark, max_passed, onto, passed_over, rest_of}
+use Rattle.nn_front.specs.declared.pull.FrontImage.{FrontImage}
+use Rattle.nn_front.specs.declared.pull.FrontImage.TheVariants.{Missing, Torn, Ended}
+use Rattle.nn_front.specs.declared.pull.LoadFault.{LoadFault}
+use Rattle.nn_front.specs.declared.pull.LoadFault.TheVariants.{ReadFailed, TooLong, OutOfMemory}
+
+-- an input's image is read as this, and these bytes follow it; and not too many stand before it
+pub record HasFront (input : List ℕ) (image : Option (Result (Namespace × ℕ) ImageFault)) (rest : List ℕ) : Type 0 where
+  pub read : image_read (divided input) ≡ image
+  pub behind : rest_of (divided input) ≡ rest
+  pub passed : passed_over input ≤ max_passed
+
+-- These bytes of an input came, and all but those that are ahead are of its front: whatever follows, where its image has ended. Else the
+-- input has.
+abbrev pub IsFrontOf : FrontImage → List ℕ → Reader → Lines → Type 0
+IsFrontOf Missing bytes r l = HasFront bytes None [] × IsAtEnd r.left × (ahead l ≡ [])
+IsFrontOf (Torn fault) bytes r l = HasFront bytes (Some (Err fault)) [] × IsAtEnd r.left × (ahead l ≡ [])
+IsFrontOf (Ended loaded) bytes r l = (more : List ℕ) → HasFront (bytes ++ more) (Some loaded) (ahead l ++ more)
+
+-- so much more was read for it
+pub record FrontRead (image : FrontImage) (before after : Reader) (old new : Lines) : Type 0 where
+  pub bytes : List ℕ
+  pub came : Came before after bytes
+  pub front : IsFrontOf image (ahead old ++ bytes) after new
+  pub fresh : IsFresh new
+
+-- more bytes stand before an image than may, and only one read went beyond them
+pub record TooMuchCame (before after : Reader) (old : Lines) : Type 0 where
+  pub bytes : List ℕ
+  pub came : Came before after bytes
+  pub much : max_passed < passed_over (ahead old ++ bytes)
+  pub soon : length (ahead old ++ bytes) ≤ max_passed + 2 ^ 16
+
+-- why none was read
+abbrev pub WhyNoFront : LoadFault → Reader → Reader → Lines → Type 0
+WhyNoFront ReadFailed before after old = after.failed ≡ true
+WhyNoFront TooLong before after old = TooMuchCame before after old
+WhyNoFront OutOfMemory before after old = after.failed ≡ before.failed
+
+abbrev pub fault_of_lines : LinesFault → LoadFault
+fault_of_lines lines.ReadFailed = ReadFailed
+fault_of_lines lines.OutOfMemory = OutOfMemory
+
+-- ---- For private clauses: what is passed over.
+
+-- no line of these is the mark
+abbrev pub has_no_mark : List (List ℕ) → Bool
+has_no_mark passed = list_all (λ line. not (bytes_eq line mark)) passed
+
+-- no line that has ended in these bytes is the mark
+pub record IsPassing (bytes : List ℕ) (l : Lines) : Type 0 where
+  pub passed : List (List ℕ)
+  pub come : HasCome 6 bytes passed l
+  pub none : has_no_mark passed ≡ true
+
+-- only the last one is
+pub record IsAtMark (bytes : List ℕ) (l : Lines) : Type 0 where
+  pub passed : List (List ℕ)
+  pub come : HasCome 6 bytes (passed ++ mark ∷ []) l
+  pub none : has_no_mark passed ≡ true
+  pub fresh : IsFresh l
+
+-- so much more was read on the way to it
+pub record HasPassed (before after : Reader) (old new : Lines) : Type 0 where
+  pub bytes : List ℕ
+  pub came : Came before after bytes
+  pub passing : IsPassing (ahead old ++ bytes) new
+
+-- a byte came, and no object begins with it
+abbrev pub IsNoObject : List ℕ → Type 0
+IsNoObject bytes = (0 < length bytes) × (begins_object bytes ≡ false)
+
+-- an image begins with what is ahead, or none does in the input
+abbrev pub IsHeaderAhead : Bool → List ℕ → Reader → Lines → Type 0
+IsHeaderAhead true bytes r l = ((more : List ℕ) → from_header (bytes ++ more) ≡ Some (ahead l ++ more)) × IsFresh l
+IsHeaderAhead false bytes r l = (from_header bytes ≡ None) × IsAtEnd r.left × (ahead l ≡ [])
+
+-- so much more was read to see that
+pub record PassedOver (found : Bool) (before after : Reader) (old new : Lines) : Type 0 where
+  pub bytes : List ℕ
+  pub came : Came before after bytes
+  pub header : IsHeaderAhead found (ahead old ++ bytes) after new
+  pub fits : length (ahead old ++ bytes) ≤ max_passed + length (ahead new)
+
+-- more bytes are cut than may be passed over, since so many were ahead
+abbrev pub IsTooMuchCut : Reader → Reader → ℕ → ℕ → Type 0
+IsTooMuchCut before after old new = before.given + (new + max_passed) < after.given + old
+
+-- ---- For private clauses: an image.
+
+-- of an image's line all bytes are kept
+abbrev pub all_bytes : ℕ
+all_bytes = 2 ^ 64 - 1
+
+-- no end line has come
+abbrev pub IsOpen : Loading → Type 0
+IsOpen at_header = Unit {0}
+IsOpen (in_rows n txid) = Unit {0}
+IsOpen (behind_end n txid) = ⊥
+IsOpen (refused e) = Unit {0}
+
+-- The lines that have ended in these bytes are loaded, and the image goes on with what follows.
+pub record IsOnImage (bytes : List ℕ) (l : Lines) (loading : Loading) : Type 0 where
+  pub lines : List (List ℕ)
+  pub come : HasCome all_bytes bytes lines l
+  pub loaded : (more : List ℕ) → read_image (joined_lines lines ++ more) ≡ loaded_from loading (pieces_of more)
+  pub cut : (more : List ℕ) → image_cut_from true [] (joined_lines lines ++ more) ≡ onto (joined_lines lines) (image_cut_from (is_first loading) [] more)
+  pub open : IsOpen loading
+
+-- so much more was read for it
+pub record HasImage (before after : Reader) (old new : Lines) (loading : Loading) : Type 0 where
+  pub bytes : List ℕ
+  pub came : Came before after bytes
+  pub on : IsOnImage (ahead old ++ bytes) new loading
+
+-- an image ends before what is ahead, or the input ends in it
+abbrev pub IsImageOf : FrontImage → List ℕ → Reader → Lines → Type 0
+IsImageOf Missing bytes r l = ⊥
+IsImageOf (Torn fault) bytes r l = (image_cut_from true [] bytes ≡ record { image = bytes; rest = [] }) × (read_image bytes ≡ Err fault) × IsAtEnd r.left × (ahead l ≡ [])
+IsImageOf (Ended loaded) bytes r l = (image : List ℕ) × ((more : List ℕ) → image_cut_from true [] (bytes ++ more) ≡ record { image = image; rest = ahead l ++ more }) × (read_image image ≡ loaded)
+
+-- so much more was read for it
+pub record ImageRead (image : FrontImage) (before after : Reader) (old new : Lines) : Type 0 where
+  pub bytes : List ℕ
+  pub came : Came before after bytes
+  pub is : IsImageOf image (ahead old ++ bytes) after new
+  pub fresh : IsFresh new

@@ -1,58 +1,23 @@
 -- The bytes of a front, one after another.
-use Rattle.std.proofs.Common.{◌≡◌, ◌≢◌, ◌⊎◌, ℕ, suc, ◌+◌, ◌-◌, ◌<◌, ◌≤◌, get_or, List, [], ◌∷◌, ◌++◌, length, take, drop, min, Bool, true, false, not, ◌&&◌, cond, eqb, Option, Some, None, Result, inl, inr, refl, sym, ap, ◌∙◌, subst, arith, append_assoc, append-nil, drop_of_length-le, length-append, length-drop, take-append-drop}
+use Rattle.std.proofs.Common.{◌≡◌, ◌≢◌, ◌⊎◌, ℕ, suc, ◌+◌, ◌-◌, ◌<◌, ◌≤◌, get_or, List, [], ◌∷◌, ◌++◌, length, take, drop, min, Bool, true, false, not, cond, eqb, Option, Some, None, Result, inl, inr, refl, sym, ap, ◌∙◌, subst, arith, append_assoc, append-nil, drop_of_length-le, length-append, length-drop, take-append-drop}
 use Rattle.std.proofs.Math.Seq.{drop-cons}
-use Rattle.std.specs.Prelude.{option_map}
 use Rattle.std.specs.Str.{bytes_eq}
-use Rattle.std.proofs.lemmas.Bool.{and_parts, not-true, cases_lt}
+use Rattle.std.proofs.lemmas.Bool.{and_parts, cases_lt}
 use Rattle.std.proofs.lemmas.Bool.Decides.{Decides-eqb}
 use Rattle.std.proofs.lemmas.List.{drop-drop, take_all}
 use Rattle.nn_bytes.specs.Lines.{line_feed}
 use Rattle.nn_model.specs.Namespace.{Namespace}
 use Rattle.nn_image.specs.Lines.{no_feed}
 use Rattle.nn_image.specs.Loading.{Loading, at_header, loaded_from, is_first, ends_with, TakesLine}
-use Rattle.nn_image.specs.Reading.{is_end_line, pieces_of, read_image}
+use Rattle.nn_image.specs.Reading.{read_image}
 use Rattle.nn_image.specs.declared.fault.ImageFault.{ImageFault}
-use Rattle.nn_image.proofs.LoadedLines.{only_piece, piece}
-use Rattle.nn_image.proofs.Round.{some_piece}
+use Rattle.nn_image.proofs.LoadedLines.{only_piece}
 use Rattle.nn_segment.specs.Lines.{is_unbroken}
 use Rattle.nn_front.specs.Cut.{Cut, behind_mark, bytes_of, image_cut_from, divided, from_header, image_read, mark, max_passed, onto, passed_over, rest_of}
 use Rattle.nn_front.specs.Front.{ArePassed, Front, IsLoaded, IsPassing, IsInImage, IsBehind, IsAtPlace, IsFront, IsTooMuch, LineEnded, begun, kept, kept_at, passed_at, room}
 use Rattle.nn_front.specs.declared.front.Place.{Place}
 use Rattle.nn_front.specs.declared.front.Place.TheVariants.{Start, Passing, Image, Behind}
-
--- ---- bytes of one line
-
--- at the end of a line
-abbrev at_feed : Bool → List ℕ → List ℕ → Cut
-at_feed header line bytes = elim (not header && is_end_line line) as (λ _. Cut) [
-  | true ↦ record { image = line_feed ∷ []; rest = bytes }
-  | false ↦ onto (line_feed ∷ []) (image_cut_from false [] bytes)
-]
-
-same_line : (header : Bool) (line bytes more : List ℕ) → is_unbroken bytes ≡ true → image_cut_from header line (bytes ++ more) ≡ onto bytes (image_cut_from header (line ++ bytes) more)
-same_line header line [] more plain = ap (λ l. image_cut_from header l more) (sym (append-nil line))
-same_line header line (b ∷ bytes) more plain =
-    let both = and_parts (not (eqb b line_feed)) (is_unbroken bytes) plain in
-    let later : onto (b ∷ []) (image_cut_from header (line ++ b ∷ []) (bytes ++ more)) ≡ onto (b ∷ bytes) (image_cut_from header (line ++ b ∷ bytes) more) =
-    ap (onto (b ∷ [])) (same_line header (line ++ b ∷ []) bytes more both.1) ∙ ap (λ l. onto (b ∷ bytes) (image_cut_from header l more)) (append_assoc line (b ∷ []) bytes) in
-    ap (λ t. elim t as (λ _. Cut) [
-      | true ↦ at_feed header line (bytes ++ more)
-      | false ↦ onto (b ∷ []) (image_cut_from header (line ++ b ∷ []) (bytes ++ more))
-    ]) (not-true (eqb b line_feed) both.0) ∙ later
-
-passes : (line bytes more : List ℕ) → is_unbroken bytes ≡ true → behind_mark line (bytes ++ more) ≡ behind_mark (line ++ bytes) more
-passes line [] more plain = ap (λ l. behind_mark l more) (sym (append-nil line))
-passes line (b ∷ bytes) more plain =
-    let both = and_parts (not (eqb b line_feed)) (is_unbroken bytes) plain in
-    let later : behind_mark (line ++ b ∷ []) (bytes ++ more) ≡ behind_mark (line ++ b ∷ bytes) more =
-    passes (line ++ b ∷ []) bytes more both.1 ∙ ap (λ l. behind_mark l more) (append_assoc line (b ∷ []) bytes) in
-    ap (λ t. elim t as (λ _. Option (List ℕ)) [
-      | true ↦ elim (bytes_eq line mark) as (λ _. Option (List ℕ)) [
-        | true ↦ Some (bytes ++ more)
-        | false ↦ behind_mark [] (bytes ++ more)
-      ]
-      | false ↦ behind_mark (line ++ b ∷ []) (bytes ++ more)
-    ]) (not-true (eqb b line_feed) both.0) ∙ later
+use Rattle.nn_front.proofs.FrontCuts.{divided_by, none_loaded, one_more, passes, same_line, same_mark}
 
 -- ---- the first six bytes of a line
 
@@ -74,21 +39,7 @@ six (a ∷ b ∷ c ∷ d ∷ []) bytes = ap (λ l. a ∷ b ∷ c ∷ d ∷ l) (t
 six (a ∷ b ∷ c ∷ d ∷ e ∷ []) bytes = ap (λ l. a ∷ b ∷ c ∷ d ∷ e ∷ l) (take_min 1 bytes)
 six (a ∷ b ∷ c ∷ d ∷ e ∷ f ∷ whole) bytes = ap (λ l. a ∷ b ∷ c ∷ d ∷ e ∷ f ∷ l) (take_min 0 bytes)
 
--- they tell whether it is the mark
-same_mark : (whole : List ℕ) → bytes_eq (take 6 whole) mark ≡ bytes_eq whole mark
-same_mark [] = refl
-same_mark (a ∷ []) = refl
-same_mark (a ∷ b ∷ []) = refl
-same_mark (a ∷ b ∷ c ∷ []) = refl
-same_mark (a ∷ b ∷ c ∷ d ∷ []) = refl
-same_mark (a ∷ b ∷ c ∷ d ∷ e ∷ []) = refl
-same_mark (a ∷ b ∷ c ∷ d ∷ e ∷ f ∷ whole) = refl
-
 -- ---- what is passed over
-
-divided_by : (input : List ℕ) (found : Option (List ℕ)) → from_header input ≡ found → divided input ≡ option_map (image_cut_from true []) found
-unfolding divided
-divided_by input found e = ap (option_map (image_cut_from true [])) e
 
 passed_by : (text more : List ℕ) → from_header (text ++ more) ≡ Some more → passed_over (text ++ more) ≡ length text
 unfolding passed_over
@@ -190,19 +141,6 @@ mark_or_none : (text whole more : List ℕ) (t : Bool) → bytes_eq whole mark �
       | false ↦ behind_mark [] more
     ])
 mark_or_none text whole more t e h = rw (← e) h
-
-none_loaded : IsLoaded [] at_header
-unfolding read_image
-none_loaded more = refl
-
--- one line more is loaded
-one_more : (lines line : List ℕ) (l m : Loading) → no_feed line ≡ true → TakesLine l m line → IsLoaded lines l → IsLoaded ((lines ++ line) ++ line_feed ∷ []) m
-one_more lines line l m unbroken takes loaded more =
-    ap read_image (append_assoc (lines ++ line) (line_feed ∷ []) more ∙ append_assoc lines line (line_feed ∷ more)) ∙ loaded (line ++ line_feed ∷ more) ∙ ap (loaded_from l) (piece line more unbroken) ∙ turn (pieces_of more) (some_piece more)
-  where
-    turn : (pieces : List (List ℕ)) → (pieces ≡ [] → ⊥) → loaded_from l (line ∷ pieces) ≡ loaded_from m pieces
-    turn [] some = absurd (some refl)
-    turn (next ∷ pieces) some = takes next pieces
 
 mark_ends : (text line : List ℕ) (l : Loading) (n : ℕ) (rest : List ℕ) → IsPassing text line l n rest → (p : Place) (m : Loading) (k : ℕ) → p ≡ cond (bytes_eq line mark) Image Passing → m ≡ l
     → k ≡ n + 1 → IsAtPlace p (text ++ line_feed ∷ []) [] m k rest

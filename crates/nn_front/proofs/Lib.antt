@@ -1,1 +1,4 @@
+pub mod FrontCuts
+pub mod Passing
+pub mod FrontImages
 pub mod Fronts

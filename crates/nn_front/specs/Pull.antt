@@ -8,7 +8,7 @@ use Rattle.nn_model.specs.Namespace.{Namespace}
 use Rattle.nn_input.specs.Cut.{Came, HasCome, IsFresh, Lines, ahead}
 use Rattle.nn_input.specs.Pieces.{joined_lines}
 use Rattle.nn_input.specs.declared.fault.LinesFault.{LinesFault}
-use Rattle.nn_input.specs.declared.fault.LinesFault.TheVariants as lines
+use Rattle.nn_input.specs.declared.fault.LinesFault.TheVariants as lines_fault
 use Rattle.nn_image.specs.Loading.{Loading, at_header, in_rows, behind_end, refused, is_first, loaded_from}
 use Rattle.nn_image.specs.Reading.{pieces_of, read_image}
 use Rattle.nn_image.specs.declared.fault.ImageFault.{ImageFault}
@@ -52,8 +52,8 @@ WhyNoFront TooLong before after old = TooMuchCame before after old
 WhyNoFront OutOfMemory before after old = after.failed ≡ before.failed
 
 abbrev pub fault_of_lines : LinesFault → LoadFault
-fault_of_lines lines.ReadFailed = ReadFailed
-fault_of_lines lines.OutOfMemory = OutOfMemory
+fault_of_lines lines_fault.ReadFailed = ReadFailed
+fault_of_lines lines_fault.OutOfMemory = OutOfMemory
 
 -- ---- For private clauses: what is passed over.
 
@@ -119,7 +119,7 @@ pub record IsOnImage (bytes : List ℕ) (l : Lines) (loading : Loading) : Type 0
   pub come : HasCome all_bytes bytes lines l
   pub loaded : (more : List ℕ) → read_image (joined_lines lines ++ more) ≡ loaded_from loading (pieces_of more)
   pub cut : (more : List ℕ) → image_cut_from true [] (joined_lines lines ++ more) ≡ onto (joined_lines lines) (image_cut_from (is_first loading) [] more)
-  pub open : IsOpen loading
+  pub unended : IsOpen loading
 
 -- so much more was read for it
 pub record HasImage (before after : Reader) (old new : Lines) (loading : Loading) : Type 0 where

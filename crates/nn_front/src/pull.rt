@@ -100,8 +100,10 @@ fn pass_over<R: Read>(lines: &mut Lines, input: &mut Reader<R>) -> Result<bool, 
     if byte == b'{' {
         return Ok(true);
     }
-    let found = pass_lines(lines, input)?;
-    Ok(found)
+    match pass_lines(lines, input) {
+        Ok(found) => Ok(found),
+        Err(fault) => Err(fault),
+    }
 }
 
 // Passes over lines up to the mark. Whether it came. The limit is asked for at each read, so that bytes without a line feed are no

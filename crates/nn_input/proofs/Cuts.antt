@@ -208,13 +208,13 @@ come_cut most bytes lines l none h = (
 
 -- ---- So much more was read.
 
-none_came : (r : Reader) → Came r r []
+pub none_came : (r : Reader) → Came r r []
 none_came r = record { got = Consumes-nil r.left; counted = omega arith; unfailed = refl }
 
 pub none_read : (most : ℕ) (r : Reader) (l : Lines) → ReadOn most r r l l
 none_read most r l = record { bytes = []; came = none_came r; goes_on = λ earlier lines h. subst (λ b. HasCome most b lines l) (sym (append-nil earlier)) h }
 
-come_both : (a b c : Reader) (some more : List ℕ) → Came a b some → Came b c more → Came a c (some ++ more)
+pub come_both : (a b c : Reader) (some more : List ℕ) → Came a b some → Came b c more → Came a c (some ++ more)
 come_both a b c some more x y = record {
   got = Consumes-trans a.left b.left c.left some more x.got y.got;
   counted = omega (arith, length-append some more, x.counted, y.counted);

@@ -1,15 +1,15 @@
 -- The lines of an image in front of an input.
-use Rattle.std.proofs.Common.{◌≡◌, ◌⊎◌, inl, inr, ℕ, ◌+◌, ◌-◌, ◌<◌, ◌≤◌, ◌^◌, List, [], ◌∷◌, ◌++◌, length, take, Bool, true, false, not, ◌&&◌, Option, Some, None, Result, Ok, Err, refl, sym, ap, subst, ◌∙◌, arith, append_assoc, append-nil, length-append}
+use Rattle.std.proofs.Common.{◌≡◌, ◌⊎◌, inl, inr, ℕ, ◌+◌, ◌-◌, ◌<◌, ◌≤◌, ◌^◌, List, [], ◌∷◌, ◌++◌, length, take, Bool, true, false, Option, Some, None, Result, Ok, Err, refl, sym, ap, subst, ◌∙◌, arith, append_assoc, append-nil, length-append}
 use Rattle.std.specs.Prelude.{codes, is_some}
 use Rattle.std.specs.Io.KnownBytes.{IsAtEnd}
-use Rattle.std.proofs.lemmas.List.{length-take, take_all}
+use Rattle.std.proofs.lemmas.List.{length-take}
 use Rattle.serde_json.specs.Data.{Data}
 use Rattle.serde_json.specs.Find.{get}
 use Rattle.nn_bytes.specs.Lines.{line_feed}
 use Rattle.nn_device.specs.Device.{Reader}
 use Rattle.nn_model.specs.Namespace.{Namespace}
 use Rattle.nn_input.specs.Blank.{is_blank}
-use Rattle.nn_input.specs.Cut.{Came, HasCome, HasEnded, IsFresh, IsTextOf, Lines, NextEnded, ReadOn, ahead, line_text}
+use Rattle.nn_input.specs.Cut.{HasCome, HasEnded, IsFresh, IsTextOf, Lines, NextEnded, ReadOn, ahead, line_text}
 use Rattle.nn_input.specs.Pieces.{is_unbroken, joined_lines}
 use Rattle.nn_input.specs.declared.lines.Place.{Place}
 use Rattle.nn_input.proofs.Cuts.{come_ahead, come_both, lines_come, none_came}
@@ -19,8 +19,8 @@ use Rattle.nn_image.specs.Reading.{all_from, by_key, by_value, has_end, is_end_l
 use Rattle.nn_image.specs.declared.fault.ImageFault.{ImageFault}
 use Rattle.nn_image.specs.declared.fault.ImageFault.TheVariants.{Truncated}
 use Rattle.nn_image.proofs.LoadedLines.{only_piece}
-use Rattle.nn_front.specs.Cut.{Cut, bytes_of, divided, from_header, image_cut_from, image_read, max_passed, onto, passed_over, rest_of}
-use Rattle.nn_front.specs.Pull.{FrontRead, HasFront, HasImage, ImageRead, IsFrontOf, IsImageOf, IsOnImage, IsOpen, PassedOver, all_bytes}
+use Rattle.nn_front.specs.Cut.{Cut, divided, from_header, image_cut_from, image_read, max_passed, onto, rest_of}
+use Rattle.nn_front.specs.Pull.{FrontRead, HasFront, HasImage, ImageRead, IsFrontOf, IsImageOf, IsOpen, PassedOver, all_bytes}
 use Rattle.nn_front.specs.declared.pull.FrontImage.{FrontImage}
 use Rattle.nn_front.specs.declared.pull.FrontImage.TheVariants.{Missing, Torn, Ended}
 use Rattle.nn_front.proofs.FrontCuts.{at_feed, divided_by, none_loaded, one_more, passed_is, same_line}
@@ -66,12 +66,6 @@ torn_open at_header going none torn = refl
 torn_open (in_rows n txid) going none torn = refl
 torn_open (behind_end n txid) going none torn = absurd going
 torn_open (refused e) going none torn = absurd (cc)
-
-pub torn_refused : (l : Loading) (e : ImageFault) → fault_of_loading l ≡ Some e → (torn : List ℕ) → loaded_from l (torn ∷ []) ≡ Err e
-torn_refused at_header e is torn = absurd (cc)
-torn_refused (in_rows n txid) e is torn = absurd (cc)
-torn_refused (behind_end n txid) e is torn = absurd (cc)
-torn_refused (refused f) e is torn = let same : f ≡ e = cc in ap Err same
 
 -- ---- By the definitions.
 
@@ -251,7 +245,7 @@ module _ (before a b : Reader) (old mid new : Lines) (h : PassedOver true before
       let whole = append-nil input in
       let rest = append-nil (ahead mid ++ bytes) in (
         has_front input (ahead mid ++ bytes) (record { image = ahead mid ++ bytes; rest = [] }) (Err fault) (ap from_header (sym whole) ∙ begins bytes [] ∙ ap Some rest) is.0 is.1
-        (omega (arith, fits bytes [], ap length whole, ap length rest)),
+            (omega (arith, fits bytes [], ap length whole, ap length rest)),
         is.2,
         is.3,
       )

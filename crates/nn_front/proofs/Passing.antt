@@ -10,12 +10,12 @@ use Rattle.std.proofs.lemmas.Slice.Eq.{bytes_eq-Decides}
 use Rattle.nn_bytes.specs.Lines.{line_feed}
 use Rattle.nn_device.specs.Device.{Reader}
 use Rattle.nn_input.specs.Blank.{is_blank}
-use Rattle.nn_input.specs.Cut.{Came, HasCome, HasEnded, IsFresh, IsTextOf, Lines, ReadOn, Refilled, ahead, line_text}
+use Rattle.nn_input.specs.Cut.{HasCome, HasEnded, IsFresh, IsTextOf, Lines, ReadOn, Refilled, ahead, line_text}
 use Rattle.nn_input.specs.Pieces.{is_unbroken, joined_lines}
 use Rattle.nn_input.specs.declared.lines.Place.{Place}
 use Rattle.nn_input.proofs.Cuts.{come_ahead, come_both, comes_ahead, lines_come, none_came}
 use Rattle.nn_input.proofs.PieceLemmas.{joined_more}
-use Rattle.nn_front.specs.Cut.{begins_object, behind_mark, bytes_of, from_header, mark, max_passed, passed_over}
+use Rattle.nn_front.specs.Cut.{behind_mark, from_header, mark, max_passed, passed_over}
 use Rattle.nn_front.specs.Pull.{HasPassed, IsAtMark, IsHeaderAhead, IsNoObject, IsPassing, IsTooMuchCut, PassedOver, TooMuchCame, WhyNoFront, has_no_mark}
 use Rattle.nn_front.specs.declared.pull.LoadFault.{LoadFault}
 use Rattle.nn_front.specs.declared.pull.LoadFault.TheVariants.{ReadFailed, TooLong, OutOfMemory}

@@ -1,10 +1,10 @@
 //! The image in front of an input's lines.
-ghost use Rattle.std.specs.Prelude.{◌≡◌, ◌≤◌, ◌<◌, ◌+◌, ◌^◌, [], ◌∷◌, List, ℕ, true, false, length, Err, IfOk, IfErr, IsTrue, ◌↔◌};
+ghost use Rattle.std.specs.Prelude.{◌≡◌, ◌≤◌, ◌<◌, ◌+◌, ◌^◌, [], ◌∷◌, List, ℕ, true, false, length, Err, IfOk, IfErr};
 ghost use Rattle.std.specs.Str.{bytes_eq};
 ghost use Rattle.nn_image.specs.Loading.{loaded_from};
 ghost use Rattle.nn_input.specs.Cut.{IsFresh, IsToldOf, ahead};
 ghost use Rattle.nn_front.specs.Cut.{mark, max_passed};
-ghost use Rattle.nn_front.specs.Pull.{FrontRead, ImageRead, IsAtMark, IsNoObject, IsOpen, IsPassing, IsTooMuchCut, PassedOver, WhyNoFront};
+ghost use Rattle.nn_front.specs.Pull.{FrontRead, ImageRead, IsAtMark, IsNoObject, IsOpen, IsPassing, PassedOver, WhyNoFront};
 
 use nn_device::Reader;
 use nn_image::{ImageFault, Loading};

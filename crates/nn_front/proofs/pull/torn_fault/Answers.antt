@@ -1,5 +1,5 @@
 use Rattle.std.proofs.Common.{sym, ◌∙◌}
-use Rattle.nn_front.proofs.FrontImages.{torn_open, torn_refused}
+use Rattle.nn_front.proofs.FrontImages.{torn_open}
 use Rattle.nn_front.proofs.pull.torn_fault.Goals as goal
 
 pub returns-in_default : goal.returns-in_default

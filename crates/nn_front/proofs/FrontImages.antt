@@ -20,7 +20,7 @@ use Rattle.nn_image.specs.declared.fault.ImageFault.{ImageFault}
 use Rattle.nn_image.specs.declared.fault.ImageFault.TheVariants.{Truncated}
 use Rattle.nn_image.proofs.LoadedLines.{only_piece}
 use Rattle.nn_front.specs.Cut.{Cut, divided, from_header, image_cut_from, image_read, max_passed, onto, rest_of}
-use Rattle.nn_front.specs.Pull.{FrontRead, HasFront, HasImage, ImageRead, IsFrontOf, IsImageOf, IsOpen, PassedOver, all_bytes}
+use Rattle.nn_front.specs.Pull.{FrontEnds, FrontRead, HasFront, HasImage, ImageEnds, ImageRead, IsOpen, PassedOver, all_bytes}
 use Rattle.nn_front.specs.declared.pull.FrontImage.{FrontImage}
 use Rattle.nn_front.specs.declared.pull.FrontImage.TheVariants.{Missing, Torn, Ended}
 use Rattle.nn_front.proofs.FrontCuts.{at_feed, divided_by, none_loaded, one_more, passed_is, same_line}
@@ -159,7 +159,11 @@ module _ (before a b : Reader) (old l mid : Lines) (p : Place) (x y : Loading) (
   image_ended new loaded ends is_loaded fresh same = record {
     bytes = h.bytes ++ next.bytes;
     came = come_both before a b h.bytes next.bytes h.came next.came;
-    is = (joined_lines lines, parts, ap read_image (sym (append-nil (joined_lines lines))) ∙ all_loaded [] ∙ ap (loaded_from y) (only_piece [] refl) ∙ sym is_loaded);
+    ends = record {
+      image = joined_lines lines;
+      read = ap read_image (sym (append-nil (joined_lines lines))) ∙ all_loaded [] ∙ ap (loaded_from y) (only_piece [] refl) ∙ sym is_loaded;
+      cut = parts;
+    };
     fresh = fresh;
   }
     where
@@ -183,9 +187,11 @@ pub image_torn : (before a b : Reader) (old l mid new : Lines) (x : Loading) (fa
 image_torn before a b old l mid new x fault h r at_end none fresh same fails = record {
   bytes = h.bytes ++ r.bytes;
   came = come_both before a b h.bytes r.bytes h.came r.came;
-  is = (
-    ap (image_cut_from true []) all ∙ h.on.cut torn ∙ ap (onto (joined_lines h.on.lines)) (torn_cut (is_first x) torn come.unbroken) ∙ (λ j. record { image = sym all j; rest = [] }),
-    ap read_image all ∙ h.on.loaded torn ∙ ap (loaded_from x) (only_piece torn come.unbroken) ∙ fails torn,
+  ends = (
+    record {
+      whole = ap (image_cut_from true []) all ∙ h.on.cut torn ∙ ap (onto (joined_lines h.on.lines)) (torn_cut (is_first x) torn come.unbroken) ∙ (λ j. record { image = sym all j; rest = [] });
+      bad = ap read_image all ∙ h.on.loaded torn ∙ ap (loaded_from x) (only_piece torn come.unbroken) ∙ fails torn;
+    },
     at_end,
     same ∙ none,
   );
@@ -223,7 +229,7 @@ pub front_missing : (before a : Reader) (old mid new : Lines) → PassedOver fal
 front_missing before a old mid new h fresh same = record {
   bytes = h.bytes;
   came = h.came;
-  front = (no_front (ahead old ++ h.bytes) h.header.0 (omega (arith, h.fits, ap length h.header.2)), h.header.1, same ∙ h.header.2);
+  ends = (no_front (ahead old ++ h.bytes) h.header.0 (omega (arith, h.fits, ap length h.header.2)), h.header.1, same ∙ h.header.2);
   fresh = fresh;
 }
 
@@ -238,24 +244,24 @@ module _ (before a b : Reader) (old mid new : Lines) (h : PassedOver true before
   fits bytes more =
       omega (arith, ap length (input_is bytes more), length-append (ahead old ++ h.bytes) (bytes ++ more), length-append bytes more, length-append (ahead mid ++ bytes) more, length-append (ahead mid) bytes, h.fits)
 
-  front_is : (image : FrontImage) (bytes : List ℕ) → IsImageOf image (ahead mid ++ bytes) b new → IsFrontOf image (ahead old ++ (h.bytes ++ bytes)) b new
-  front_is Missing bytes is = absurd is
-  front_is (Torn fault) bytes is =
+  front_ends : (image : FrontImage) (bytes : List ℕ) → ImageEnds image (ahead mid ++ bytes) b new → FrontEnds image (ahead old ++ (h.bytes ++ bytes)) b new
+  front_ends Missing bytes is = absurd is
+  front_ends (Torn fault) bytes is =
       let input = ahead old ++ (h.bytes ++ bytes) in
       let whole = append-nil input in
       let rest = append-nil (ahead mid ++ bytes) in (
-        has_front input (ahead mid ++ bytes) (record { image = ahead mid ++ bytes; rest = [] }) (Err fault) (ap from_header (sym whole) ∙ begins bytes [] ∙ ap Some rest) is.0 is.1
+        has_front input (ahead mid ++ bytes) (record { image = ahead mid ++ bytes; rest = [] }) (Err fault) (ap from_header (sym whole) ∙ begins bytes [] ∙ ap Some rest) is.0.whole is.0.bad
             (omega (arith, fits bytes [], ap length whole, ap length rest)),
+        is.1,
         is.2,
-        is.3,
       )
-  front_is (Ended loaded) bytes (image, parts, read) =
-      λ more. has_front ((ahead old ++ (h.bytes ++ bytes)) ++ more) ((ahead mid ++ bytes) ++ more) (record { image = image; rest = ahead new ++ more }) loaded (begins bytes more) (parts more) read (fits bytes more)
+  front_ends (Ended loaded) bytes is =
+      λ more. has_front ((ahead old ++ (h.bytes ++ bytes)) ++ more) ((ahead mid ++ bytes) ++ more) (record { image = is.image; rest = ahead new ++ more }) loaded (begins bytes more) (is.cut more) is.read (fits bytes more)
 
   pub front_read : (image : FrontImage) → ImageRead image a b mid new → FrontRead image before b old new
   front_read image i = record {
     bytes = h.bytes ++ i.bytes;
     came = come_both before a b h.bytes i.bytes h.came i.came;
-    front = front_is image i.bytes i.is;
+    ends = front_ends image i.bytes i.ends;
     fresh = i.fresh;
   }

@@ -1,5 +1,6 @@
 -- The image in front of an input's lines, which are asked for one after another.
-use Rattle.std.specs.Prelude.{◌≡◌, ◌<◌, ◌≤◌, ◌+◌, ◌-◌, ◌^◌, ℕ, List, [], ◌∷◌, ◌++◌, length, Bool, true, false, not, Option, Some, None, Result, Err}
+use Rattle.std.specs.Prelude.{◌≡◌, ◌<◌, ◌≤◌, ◌+◌, ◌-◌, ◌^◌, ℕ, List, [], ◌∷◌, ◌++◌, length}
+use Rattle.std.specs.Prelude.{Bool, true, false, not, Option, Some, None, Result, Err}
 use Rattle.std.specs.List.{list_all}
 use Rattle.std.specs.Str.{bytes_eq}
 use Rattle.std.specs.Io.KnownBytes.{IsAtEnd}
@@ -24,18 +25,18 @@ pub record HasFront (input : List ℕ) (image : Option (Result (Namespace × ℕ
   pub behind : rest_of (divided input) ≡ rest
   pub passed : passed_over input ≤ max_passed
 
--- These bytes of an input came, and all but those that are ahead are of its front: whatever follows, where its image has ended. Else the
--- input has.
-abbrev pub IsFrontOf : FrontImage → List ℕ → Reader → Lines → Type 0
-IsFrontOf Missing bytes r l = HasFront bytes None [] × IsAtEnd r.left × (ahead l ≡ [])
-IsFrontOf (Torn fault) bytes r l = HasFront bytes (Some (Err fault)) [] × IsAtEnd r.left × (ahead l ≡ [])
-IsFrontOf (Ended loaded) bytes r l = (more : List ℕ) → HasFront (bytes ++ more) (Some loaded) (ahead l ++ more)
+-- What a front comes to with these bytes: with an image that has ended, of which what is ahead is the rest, whatever follows; or with
+-- none, or a torn one, where the input has ended.
+abbrev pub FrontEnds : FrontImage → List ℕ → Reader → Lines → Type 0
+FrontEnds Missing bytes r l = HasFront bytes None [] × IsAtEnd r.left × (ahead l ≡ [])
+FrontEnds (Torn fault) bytes r l = HasFront bytes (Some (Err fault)) [] × IsAtEnd r.left × (ahead l ≡ [])
+FrontEnds (Ended loaded) bytes r l = (more : List ℕ) → HasFront (bytes ++ more) (Some loaded) (ahead l ++ more)
 
--- so much more was read for it
+-- so much more was read for one
 pub record FrontRead (image : FrontImage) (before after : Reader) (old new : Lines) : Type 0 where
   pub bytes : List ℕ
   pub came : Came before after bytes
-  pub front : IsFrontOf image (ahead old ++ bytes) after new
+  pub ends : FrontEnds image (ahead old ++ bytes) after new
   pub fresh : IsFresh new
 
 -- more bytes stand before an image than may, and only one read went beyond them
@@ -45,7 +46,7 @@ pub record TooMuchCame (before after : Reader) (old : Lines) : Type 0 where
   pub much : max_passed < passed_over (ahead old ++ bytes)
   pub soon : length (ahead old ++ bytes) ≤ max_passed + 2 ^ 16
 
--- why none was read
+-- why no front was read
 abbrev pub WhyNoFront : LoadFault → Reader → Reader → Lines → Type 0
 WhyNoFront ReadFailed before after old = after.failed ≡ true
 WhyNoFront TooLong before after old = TooMuchCame before after old
@@ -121,21 +122,32 @@ pub record IsOnImage (bytes : List ℕ) (l : Lines) (loading : Loading) : Type 0
   pub cut : (more : List ℕ) → image_cut_from true [] (joined_lines lines ++ more) ≡ onto (joined_lines lines) (image_cut_from (is_first loading) [] more)
   pub unended : IsOpen loading
 
--- so much more was read for it
+-- so much more was read for them
 pub record HasImage (before after : Reader) (old new : Lines) (loading : Loading) : Type 0 where
   pub bytes : List ℕ
   pub came : Came before after bytes
   pub on : IsOnImage (ahead old ++ bytes) new loading
 
--- an image ends before what is ahead, or the input ends in it
-abbrev pub IsImageOf : FrontImage → List ℕ → Reader → Lines → Type 0
-IsImageOf Missing bytes r l = ⊥
-IsImageOf (Torn fault) bytes r l = (image_cut_from true [] bytes ≡ record { image = bytes; rest = [] }) × (read_image bytes ≡ Err fault) × IsAtEnd r.left × (ahead l ≡ [])
-IsImageOf (Ended loaded) bytes r l = (image : List ℕ) × ((more : List ℕ) → image_cut_from true [] (bytes ++ more) ≡ record { image = image; rest = ahead l ++ more }) × (read_image image ≡ loaded)
+-- all of these bytes are of an image, which has this fault
+pub record IsTornImage (fault : ImageFault) (bytes : List ℕ) : Type 0 where
+  pub whole : image_cut_from true [] bytes ≡ record { image = bytes; rest = [] }
+  pub bad : read_image bytes ≡ Err fault
+
+-- the image in front of these bytes has ended, whatever follows, and this is left of them
+pub record IsEndedImage (loaded : Result (Namespace × ℕ) ImageFault) (bytes left : List ℕ) : Type 0 where
+  pub image : List ℕ
+  pub read : read_image image ≡ loaded
+  pub cut : (more : List ℕ) → image_cut_from true [] (bytes ++ more) ≡ record { image = image; rest = left ++ more }
+
+-- what an image comes to with these bytes
+abbrev pub ImageEnds : FrontImage → List ℕ → Reader → Lines → Type 0
+ImageEnds Missing bytes r l = ⊥
+ImageEnds (Torn fault) bytes r l = IsTornImage fault bytes × IsAtEnd r.left × (ahead l ≡ [])
+ImageEnds (Ended loaded) bytes r l = IsEndedImage loaded bytes (ahead l)
 
 -- so much more was read for it
 pub record ImageRead (image : FrontImage) (before after : Reader) (old new : Lines) : Type 0 where
   pub bytes : List ℕ
   pub came : Came before after bytes
-  pub is : IsImageOf image (ahead old ++ bytes) after new
+  pub ends : ImageEnds image (ahead old ++ bytes) after new
   pub fresh : IsFresh new

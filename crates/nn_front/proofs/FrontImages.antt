@@ -9,7 +9,7 @@ use Rattle.nn_bytes.specs.Lines.{line_feed}
 use Rattle.nn_device.specs.Device.{Reader}
 use Rattle.nn_model.specs.Namespace.{Namespace}
 use Rattle.nn_input.specs.Blank.{is_blank}
-use Rattle.nn_input.specs.Cut.{HasCome, HasEnded, IsFresh, IsTextOf, Lines, NextEnded, ReadOn, ahead, line_text}
+use Rattle.nn_input.specs.Cut.{HasCome, HasEnded, IsFresh, IsTextOf, Lines, NextEnded, ReadOn, ahead, line_blank, line_text}
 use Rattle.nn_input.specs.Pieces.{is_unbroken, joined_lines}
 use Rattle.nn_input.specs.declared.lines.Place.{Place}
 use Rattle.nn_input.proofs.Cuts.{come_ahead, come_both, lines_come, none_came}
@@ -111,7 +111,7 @@ module _ (before a b : Reader) (old l mid : Lines) (p : Place) (x y : Loading) (
   ended = next.ended (ahead old ++ h.bytes) h.on.lines h.on.come
 
   text_is : text ≡ ended.line
-  text_is = is ∙ whole_text all_bytes ended.line (line_text mid p) mid.last.blank (omega arith) ended.text (subst (λ t. length t < 2 ^ 63) is few)
+  text_is = is ∙ whole_text all_bytes ended.line (line_text mid p) (line_blank mid p) (omega arith) ended.text (subst (λ t. length t < 2 ^ 63) is few)
 
   abbrev lines : List (List ℕ)
   lines = h.on.lines ++ ended.line ∷ []

@@ -10,7 +10,7 @@ use Rattle.std.proofs.lemmas.Slice.Eq.{bytes_eq-Decides}
 use Rattle.nn_bytes.specs.Lines.{line_feed}
 use Rattle.nn_device.specs.Device.{Reader}
 use Rattle.nn_input.specs.Blank.{is_blank}
-use Rattle.nn_input.specs.Cut.{HasCome, HasEnded, IsFresh, IsTextOf, Lines, ReadOn, Refilled, ahead, line_text}
+use Rattle.nn_input.specs.Cut.{HasCome, HasEnded, IsFresh, IsTextOf, Lines, ReadOn, Refilled, ahead, line_blank, line_text}
 use Rattle.nn_input.specs.Pieces.{is_unbroken, joined_lines}
 use Rattle.nn_input.specs.declared.lines.Place.{Place}
 use Rattle.nn_input.proofs.Cuts.{come_ahead, come_both, comes_ahead, lines_come, none_came}
@@ -101,7 +101,7 @@ told line text blank h = by h.is
 module _ (old l new : Lines) (p : Place) (text : List ℕ) (so_far : (bytes : List ℕ) → IsPassing bytes old → IsPassing bytes l)
     (ends : (bytes : List ℕ) (lines : List (List ℕ)) → HasCome 6 bytes lines l → HasEnded 6 bytes lines p new) (is : text ≡ line_text new p) where
   line_told : (bytes : List ℕ) (lines : List (List ℕ)) (e : HasEnded 6 bytes lines p new) → bytes_eq e.line mark ≡ bytes_eq text mark
-  line_told bytes lines e = sym (told e.line (line_text new p) new.last.blank e.text) ∙ ap (λ t. bytes_eq t mark) (sym is)
+  line_told bytes lines e = sym (told e.line (line_text new p) (line_blank new p) e.text) ∙ ap (λ t. bytes_eq t mark) (sym is)
 
   pub line_passed : bytes_eq text mark ≡ false → (bytes : List ℕ) → IsPassing bytes old → IsPassing bytes new
   line_passed other bytes h =

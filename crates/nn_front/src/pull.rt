@@ -116,12 +116,12 @@ fn pass_lines<R: Read>(lines: &mut Lines, input: &mut Reader<R>) -> Result<bool,
     ensures soon { input.new.given + length (ahead lines.old) ≤ input.old.given + (max_passed + 2 ^ 16) }
 {
     let given = input.given();
-    let ahead = lines.ahead() as u64;
+    let ahead = lines.left() as u64;
     'reads: loop {
         let Ok(found) = cut_to_mark(lines) else {
             return Err(LoadFault::OutOfMemory);
         };
-        if input.given() + ahead > given + (lines.ahead() as u64 + MAX_PASSED) {
+        if input.given() + ahead > given + (lines.left() as u64 + MAX_PASSED) {
             return Err(LoadFault::TooLong);
         }
         if found {

@@ -65,7 +65,7 @@ short_take (suc n) (b ∷ t) = at (short_take n t)
     at (inr long) = inr (omega (arith, long))
 
 pub kept_text : (most : ℕ) (line : List ℕ) (x : TornBytes) → KeepsFirst most line x → IsTextOf most line x.kept x.blank
-kept_text most line x has = record { is = at (short_take most line) }
+kept_text most line x has = record { is = at (short_take most line); told = has.blank }
   where
     at : (take most line ≡ line) ⊎ (most ≤ length line) → (x.kept ≡ line) ⊎ ((most ≤ length line) × (x.kept ≡ take most line) × (x.blank ≡ is_blank line))
     at (inl same) = inl (has.kept ∙ same)
@@ -147,7 +147,7 @@ read_line most bytes lines start end text old new some none whole cut same there
       line = h.torn ++ text;
       come = one_ends most bytes lines text old new whole cut (subst (KeepsFirst most []) (sym same) (subst (λ t. KeepsFirst most t old.torn) empty h.kept)) h;
       unbroken = unbroken_both h.torn text h.unbroken whole;
-      text = record { is = inl (there ∙ sym line) };
+      text = record { is = inl (there ∙ sym line); told = ap is_blank (there ∙ sym line) };
       fresh = same ∙ kept_nothing most old.torn (subst (λ t. KeepsFirst most t old.torn) empty h.kept);
     }
 

@@ -36,7 +36,7 @@ pub record Lines : Type 0 where
 abbrev pub ahead : Lines → List ℕ
 ahead l = take (l.to - l.from) (drop l.from l.buffer)
 
--- of the line in hand nothing came yet
+-- no line is in hand: what is ahead begins with one
 abbrev pub IsFresh : Lines → Type 0
 IsFresh l = l.torn ≡ no_bytes
 
@@ -44,6 +44,11 @@ IsFresh l = l.torn ≡ no_bytes
 abbrev pub line_text : Lines → Place → List ℕ
 line_text l (place.Read start end) = take (end - start) (drop start l.buffer)
 line_text l place.Kept = l.last.kept
+
+-- and whether the line is blank, which is known where its text was cut short too
+abbrev pub line_blank : Lines → Place → Bool
+line_blank l (place.Read start end) = is_blank (line_text l (place.Read start end))
+line_blank l place.Kept = l.last.blank
 
 -- its place is there
 abbrev pub IsThere : Place → Lines → Type 0
@@ -59,16 +64,17 @@ pub record HasCome (most : ℕ) (bytes : List ℕ) (lines : List (List ℕ)) (l 
   pub unbroken : is_unbroken torn ≡ true
   pub kept : KeepsFirst most torn l.torn
 
--- the text of a line is the line, or its first bytes where it is as long as may be kept
+-- the text of a line is the line, or its first bytes where it is as long as may be kept; and whether all of the line is blank
 pub record IsTextOf (most : ℕ) (line text : List ℕ) (blank : Bool) : Type 0 where
   pub is : (text ≡ line) ⊎ ((most ≤ length line) × (text ≡ take most line) × (blank ≡ is_blank line))
+  pub told : blank ≡ is_blank line
 
 -- one line more has ended, and this is its text
 pub record HasEnded (most : ℕ) (bytes : List ℕ) (lines : List (List ℕ)) (p : Place) (l : Lines) : Type 0 where
   pub line : List ℕ
   pub come : HasCome most bytes (lines ++ line ∷ []) l
   pub unbroken : is_unbroken line ≡ true
-  pub text : IsTextOf most line (line_text l p) l.last.blank
+  pub text : IsTextOf most line (line_text l p) (line_blank l p)
   pub fresh : IsFresh l
 
 -- no line more has ended

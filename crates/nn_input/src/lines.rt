@@ -1,8 +1,9 @@
 //! The lines of a reader, one after another.
 ghost use Rattle.std.specs.Prelude.{◌≡◌, ◌≤◌, ◌<◌, ◌+◌, ◌^◌, [], ◌∷◌, List, ℕ, false, length, IfOk, IfErr, IfSome, None, true};
 ghost use Rattle.std.specs.Io.KnownBytes.{IsAtEnd};
-ghost use Rattle.nn_input.specs.Cut.{HasCome, HasEnded, IsCutTo, IsFresh, IsThere, IsToldOf, NextEnded, ReadOn, Refilled, ahead, line_text, still_to_cut};
+ghost use Rattle.nn_input.specs.Cut.{HasCome, HasEnded, IsCutTo, IsFresh, IsThere, IsToldOf, NextEnded, ReadOn, Refilled, ahead, line_blank, line_text, still_to_cut};
 
+use crate::blank::is_blank;
 use crate::fault::LinesFault;
 use crate::torn::TornBytes;
 use nn_bytes::line_end;
@@ -51,8 +52,8 @@ impl Model for Lines {
 impl Lines {
     /// No bytes.
     pub fn new(alloc: Global) -> Result<Lines, AllocError>
-        ensures come { IfOk result (λ l. (most : ℕ) → HasCome most [] [] l) }
-        ensures fresh { IfOk result (λ l. IsFresh l × (ahead l ≡ [])) }
+        ensures none { IfOk result (λ l. (most : ℕ) → HasCome most [] [] l) }
+        ensures fresh { IfOk result (λ l. (ahead l ≡ []) × IsFresh l) }
     {
         let buffer = new_buffer(alloc, BUFFER)?;
         Ok(Lines {
@@ -105,8 +106,9 @@ impl Lines {
         ensures some { IfOk result (λ more. more ≡ true → (input.old.given < input.new.given) × (input.old.given < 2 ^ 62)) }
         ensures end { IfOk result (λ more. more ≡ false → IsAtEnd input.new.left) }
         ensures none { IfOk result (λ more. more ≡ false → ahead self.new ≡ []) }
-        ensures few { input.new.given ≤ input.old.given + 2 ^ 16 }
-        ensures failed { IfErr result (λ _. input.new.failed ≡ true) }
+        ensures few { length (ahead self.new) ≤ 2 ^ 16 }
+        ensures soon { input.new.given ≤ input.old.given + 2 ^ 16 }
+        ensures failed { IfErr result (λ _. (input.new.failed ≡ true) × (input.new.given ≡ input.old.given)) }
     {
         let Ok(n) = input.read(&mut self.buffer) else {
             return Err(ReadFailed);
@@ -156,7 +158,7 @@ impl Lines {
         ensures byte { IfOk result (λ found. IfSome found (λ b. (rest : List ℕ) × (ahead self.new ≡ b ∷ rest))) }
         ensures none { IfOk result (λ found. found ≡ None → IsAtEnd input.new.left × (ahead self.new ≡ [])) }
         ensures torn { IfOk result (λ _. self.new.torn ≡ self.old.torn) }
-        ensures few { input.new.given ≤ input.old.given + 2 ^ 16 }
+        ensures soon { input.new.given ≤ input.old.given + 2 ^ 16 }
         ensures failed { IfErr result (λ _. input.new.failed ≡ true) }
     {
         if self.from < self.to {
@@ -179,14 +181,6 @@ impl Lines {
         input.given() - (self.to - self.from) as u64
     }
 
-    /// How many bytes were read and are not cut.
-    pub fn ahead(&self) -> usize
-        ensures count { result ≡ length (ahead self.now) }
-        ensures few { result ≤ 2 ^ 16 }
-    {
-        self.to - self.from
-    }
-
     /// The text of the line that has just ended.
     pub fn text(&self, place: Place) -> &[u8]
         requires { IsThere place self.now }
@@ -199,6 +193,17 @@ impl Lines {
         }
     }
 
+    /// Whether the line that has just ended is blank, also where its text was cut short.
+    pub fn is_blank(&self, place: Place) -> bool
+        requires { IsThere place self.now }
+        ensures { result ≡ line_blank self.now place }
+    {
+        match place {
+            Place::Read(start, end) => is_blank(&self.buffer[start..end]),
+            Place::Kept => self.last.is_blank(),
+        }
+    }
+
     /// What is kept of the bytes behind the last line feed, once all that was read is cut.
     pub fn torn(&self) -> &[u8]
         ensures { result.now ≡ self.now.torn.kept }
@@ -206,7 +211,29 @@ impl Lines {
         self.torn.as_slice()
     }
 
-    /// Lets the bytes that are kept go, with their memory. What comes next begins a line.
+    /// Whether all bytes behind the last line feed are blank, also those that are not kept.
+    pub fn is_torn_blank(&self) -> bool
+        ensures { result ≡ self.now.torn.blank }
+    {
+        self.torn.is_blank()
+    }
+
+    /// How many bytes were read and are not cut: those of one read at most.
+    pub fn left(&self) -> usize
+        ensures left { result ≡ length (ahead self.now) }
+        ensures few { result ≤ 2 ^ 16 }
+    {
+        self.to - self.from
+    }
+
+    /// Lets them go, uncut.
+    pub fn forget(&mut self)
+        ensures { ahead self.new ≡ [] }
+    {
+        self.from = self.to;
+    }
+
+    /// Lets the bytes that are kept go, with their memory. What is ahead begins a line then.
     pub fn let_go(&mut self, alloc: Global)
         ensures fresh { IsFresh self.new }
         ensures same { ahead self.new ≡ ahead self.old }

@@ -40,6 +40,13 @@ impl TornBytes {
         &self.kept
     }
 
+    /// Whether all of the bytes are blank, also those that are not kept.
+    pub(crate) fn is_blank(&self) -> bool
+        ensures { result ≡ self.now.blank }
+    {
+        self.blank
+    }
+
     /// Adds more, of which so many bytes in all are kept.
     pub(crate) fn push(&mut self, bytes: &[u8], most: usize) -> Result<(), AllocError>
         ensures { OnOk result ((torn : List ℕ) → KeepsFirst most torn self.old → KeepsFirst most (torn ++ bytes.now) self.new) }

@@ -10,6 +10,6 @@ reads-preserved g c =
       read = more_read c.args.most c.args.input.now c.reads.input c.refill.new.input c.args.self.now c.reads.self c.cut.new.self c.refill.new.self c.reads.invariant.read cut.0 cut.1 more;
       left =
           let given = c.in-Ok-refill.ensures.some c.if-not-more.false in
-          omega (arith, ap length more.are, more.came.counted, given.0, given.1, c.refill.ensures.few, c.reads.invariant.left);
+          omega (arith, ap length more.are, more.came.counted, given.0, given.1, c.refill.ensures.soon, c.reads.invariant.left);
       taken = omega (arith, ap length more.are, more.came.counted, c.reads.invariant.read.came.counted);
     }

@@ -78,7 +78,7 @@ torn_cut header torn whole =
 
 -- ---- A line comes whole.
 
-whole_text : (most : ℕ) (line text : List ℕ) (blank : Bool) → 2 ^ 63 ≤ most → IsTextOf most line text blank → length text < 2 ^ 63 → text ≡ line
+pub whole_text : (most : ℕ) (line text : List ℕ) (blank : Bool) → 2 ^ 63 ≤ most → IsTextOf most line text blank → length text < 2 ^ 63 → text ≡ line
 whole_text most line text blank many h few = by h.is
   where
     by : (text ≡ line) ⊎ ((most ≤ length line) × (text ≡ take most line) × (blank ≡ is_blank line)) → text ≡ line

@@ -1,4 +1,5 @@
 pub mod FrontCuts
 pub mod Passing
 pub mod FrontImages
+pub mod AtOnce
 pub mod Fronts

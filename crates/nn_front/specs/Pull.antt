@@ -1,18 +1,19 @@
 -- The image in front of an input's lines, which are asked for one after another.
-use Rattle.std.specs.Prelude.{◌≡◌, ◌<◌, ◌≤◌, ◌+◌, ◌-◌, ◌^◌, ℕ, List, [], ◌∷◌, ◌++◌, length}
-use Rattle.std.specs.Prelude.{Bool, true, false, not, Option, Some, None, Result, Err}
+use Rattle.std.specs.Prelude.{◌≡◌, ◌<◌, ◌≤◌, ◌+◌, ◌-◌, ◌^◌, ℕ, List, [], ◌∷◌, ◌++◌, length, take}
+use Rattle.std.specs.Prelude.{◌⊎◌, Bool, true, false, not, Option, Some, None, Result, Err}
 use Rattle.std.specs.List.{list_all}
 use Rattle.std.specs.Str.{bytes_eq}
-use Rattle.std.specs.Io.KnownBytes.{IsAtEnd}
+use Rattle.std.specs.Io.KnownBytes.{Consumes, IsAtEnd}
 use Rattle.nn_device.specs.Device.{Reader}
 use Rattle.nn_model.specs.Namespace.{Namespace}
 use Rattle.nn_input.specs.Cut.{Came, HasCome, IsFresh, Lines, ahead}
-use Rattle.nn_input.specs.Pieces.{joined_lines}
+use Rattle.nn_input.specs.Pieces.{is_unbroken, joined_lines}
 use Rattle.nn_input.specs.declared.fault.LinesFault.{LinesFault}
 use Rattle.nn_input.specs.declared.fault.LinesFault.TheVariants as lines_fault
-use Rattle.nn_image.specs.Loading.{Loading, at_header, in_rows, behind_end, refused, is_first, loaded_from}
+use Rattle.nn_image.specs.Loading.{Loading, at_header, in_rows, behind_end, refused, fault_of_loading, is_first, loaded_from}
 use Rattle.nn_image.specs.Reading.{pieces_of, read_image}
 use Rattle.nn_image.specs.declared.fault.ImageFault.{ImageFault}
+use Rattle.nn_image.specs.declared.fault.ImageFault.TheVariants.{Truncated}
 use Rattle.nn_front.specs.Cut.{begins_object, divided, from_header, image_cut_from, image_read, mark, max_passed, onto, passed_over, rest_of}
 use Rattle.nn_front.specs.declared.pull.FrontImage.{FrontImage}
 use Rattle.nn_front.specs.declared.pull.FrontImage.TheVariants.{Missing, Torn, Ended}
@@ -55,6 +56,74 @@ WhyNoFront OutOfMemory before after old = after.failed ≡ before.failed
 abbrev pub fault_of_lines : LinesFault → LoadFault
 fault_of_lines lines_fault.ReadFailed = ReadFailed
 fault_of_lines lines_fault.OutOfMemory = OutOfMemory
+
+-- ---- An image that is loaded at once.
+
+-- the lines so far are those of an image that has not ended, and none of them is refused: so it was behind each of them
+abbrev pub Waits : List (List ℕ) → Type 0
+Waits lines = (n : ℕ) → read_image (joined_lines (take n lines)) ≡ Err Truncated
+
+-- these bytes are such lines, and some bytes of another
+pub record IsWaiting (bytes : List ℕ) : Type 0 where
+  pub lines : List (List ℕ)
+  pub torn : List ℕ
+  pub are : bytes ≡ joined_lines lines ++ torn
+  pub each : list_all is_unbroken lines ≡ true
+  pub unbroken : is_unbroken torn ≡ true
+  pub waits : Waits lines
+
+-- an image ends with a line of these bytes, or no image has such a line: all up to it are read as this, and this is left of the bytes
+pub record IsJudged (loaded : Result (Namespace × ℕ) ImageFault) (bytes left : List ℕ) : Type 0 where
+  pub before : List (List ℕ)
+  pub line : List ℕ
+  pub are : bytes ≡ joined_lines (before ++ line ∷ []) ++ left
+  pub each : list_all is_unbroken (before ++ line ∷ []) ≡ true
+  pub waits : Waits before
+  pub read : read_image (joined_lines (before ++ line ∷ [])) ≡ loaded
+  pub told : loaded ≡ Err Truncated → ⊥
+
+-- or the input ends while it waits
+pub record EndsWaiting (loaded : Result (Namespace × ℕ) ImageFault) (bytes left : List ℕ) (r : Reader) : Type 0 where
+  pub none : left ≡ []
+  pub end : IsAtEnd r.left
+  pub waiting : IsWaiting bytes
+  pub told : loaded ≡ Err Truncated
+
+-- before the last read, by which these bytes came, it waited
+pub record WaitsUntil (bytes : List ℕ) : Type 0 where
+  pub earlier : List ℕ
+  pub last : List ℕ
+  pub are : bytes ≡ earlier ++ last
+  pub waiting : IsWaiting earlier
+  pub one_read : length last ≤ 2 ^ 16
+
+-- so much was read for it
+pub record LoadedAtOnce (loaded : Result (Namespace × ℕ) ImageFault) (before after : Reader) (new : Lines) : Type 0 where
+  pub bytes : List ℕ
+  pub came : Came before after bytes
+  pub until : WaitsUntil bytes
+  pub is : IsJudged loaded bytes (ahead new) ⊎ EndsWaiting loaded bytes (ahead new) after
+  pub fresh : IsFresh new
+
+-- a read failed while it waits: the device refused it, or the reader had failed before, or it gave 2^62 bytes
+pub record FailsWaiting (before after : Reader) : Type 0 where
+  pub bytes : List ℕ
+  pub got : Consumes before.left after.left bytes
+  pub counted : after.given ≡ before.given + length bytes
+  pub waiting : IsWaiting bytes
+  pub noted : after.failed ≡ true
+  pub why : (after.refused ≡ true) ⊎ ((before.failed ≡ true) ⊎ (2 ^ 62 ≤ after.given))
+
+-- memory was refused
+pub record StopsWaiting (before after : Reader) : Type 0 where
+  pub bytes : List ℕ
+  pub came : Came before after bytes
+  pub until : WaitsUntil bytes
+
+-- why it was not loaded
+abbrev pub WhyNotLoaded : LinesFault → Reader → Reader → Type 0
+WhyNotLoaded lines_fault.ReadFailed before after = FailsWaiting before after
+WhyNotLoaded lines_fault.OutOfMemory before after = StopsWaiting before after
 
 -- ---- For private clauses: what is passed over.
 
@@ -151,3 +220,26 @@ pub record ImageRead (image : FrontImage) (before after : Reader) (old new : Lin
   pub came : Came before after bytes
   pub ends : ImageEnds image (ahead old ++ bytes) after new
   pub fresh : IsFresh new
+
+-- ---- For private clauses: an image that is loaded at once.
+
+-- the lines that have ended in these bytes are loaded, and it waits
+pub record WaitsOn (bytes : List ℕ) (l : Lines) (loading : Loading) : Type 0 where
+  pub lines : List (List ℕ)
+  pub come : HasCome all_bytes bytes lines l
+  pub loaded : (more : List ℕ) → read_image (joined_lines lines ++ more) ≡ loaded_from loading (pieces_of more)
+  pub waits : Waits lines
+  pub unended : IsOpen loading
+  pub well : fault_of_loading loading ≡ None
+
+-- it has ended, or a line is refused
+pub record HasJudged (bytes : List ℕ) (l : Lines) (loading : Loading) : Type 0 where
+  pub is : IsJudged (loaded_from loading ([] ∷ [])) bytes (ahead l)
+  pub fresh : IsFresh l
+
+-- so much more was read, and it waits
+pub record HasWaited (before after : Reader) (l : Lines) (loading : Loading) : Type 0 where
+  pub bytes : List ℕ
+  pub came : Came before after bytes
+  pub on : WaitsOn bytes l loading
+  pub until : WaitsUntil bytes

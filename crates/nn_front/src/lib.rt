@@ -5,4 +5,4 @@ mod front;
 mod pull;
 
 pub use front::{Front, FrontFault, Loaded, MAX_PASSED};
-pub use pull::{FrontImage, LoadFault, load_front};
+pub use pull::{FrontImage, LoadFault, load_at_once, load_front};

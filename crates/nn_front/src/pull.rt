@@ -4,7 +4,7 @@ ghost use Rattle.std.specs.Str.{bytes_eq};
 ghost use Rattle.nn_image.specs.Loading.{loaded_from};
 ghost use Rattle.nn_input.specs.Cut.{IsFresh, IsToldOf, ahead};
 ghost use Rattle.nn_front.specs.Cut.{mark, max_passed};
-ghost use Rattle.nn_front.specs.Pull.{FrontRead, ImageRead, IsAtMark, IsNoObject, IsOpen, IsPassing, PassedOver, WhyNoFront};
+ghost use Rattle.nn_front.specs.Pull.{FrontRead, HasJudged, ImageRead, IsAtMark, IsNoObject, IsOpen, IsPassing, LoadedAtOnce, PassedOver, WaitsOn, WhyNoFront, WhyNotLoaded};
 
 use nn_device::Reader;
 use nn_image::{ImageFault, Loading};
@@ -81,6 +81,37 @@ pub fn load_front<R: Read>(
     }
     let image = load_image(alloc, lines, input)?;
     Ok(image)
+}
+
+/// Loads the image that these lines begin with, for who has to know at once: up to its end line, or to the first line that no image
+/// has. An image that the input ends in is truncated. The input may go on for years: its reads are not counted.
+pub fn load_at_once<R: Read>(
+    alloc: Global,
+    lines: &mut Lines,
+    input: &mut Reader<R>,
+) -> Result<Result<(Namespace, Txid), ImageFault>, LinesFault>
+    requires fresh { IsFresh lines.old }
+    requires none { ahead lines.old ≡ [] }
+    ensures loaded { IfOk result (λ loaded. LoadedAtOnce loaded input.old input.new lines.new) }
+    ensures why { IfErr result (λ fault. WhyNotLoaded fault input.old input.new) }
+{
+    let mut loading = Loading::new();
+    'reads: loop {
+        let Ok(judged) = push_lines(alloc, lines, &mut loading) else {
+            return Err(LinesFault::OutOfMemory);
+        };
+        if judged {
+            lines.let_go(alloc);
+            return Ok(loading.end(&[]));
+        }
+        let Ok(more) = lines.refill_on(input) else {
+            return Err(LinesFault::ReadFailed);
+        };
+        if !more {
+            lines.let_go(alloc);
+            return Ok(Err(ImageFault::Truncated));
+        }
+    }
 }
 
 // Passes over what stands before an image: nothing where the input begins with an object, else the lines up to the mark. Whether an
@@ -181,6 +212,31 @@ fn load_image<R: Read>(
         if ends {
             lines.let_go(alloc);
             return Ok(FrontImage::Ended(loading.end(&[])));
+        }
+    }
+}
+
+// Loads the lines that have ended in what was read, up to the end line, or the first that is refused. Whether there is one.
+fn push_lines(alloc: Global, lines: &mut Lines, loading: &mut Loading) -> Result<bool, AllocError>
+    ensures judged { IfOk result (λ judged. judged ≡ true → (bytes : List ℕ) → WaitsOn bytes lines.old loading.old → HasJudged bytes lines.new loading.new) }
+    ensures none { IfOk result (λ judged. judged ≡ false
+        → ((bytes : List ℕ) → WaitsOn bytes lines.old loading.old → WaitsOn bytes lines.new loading.new) × (ahead lines.new ≡ [])) }
+{
+    'lines: loop {
+        let Ok(found) = lines.cut(ALL) else {
+            return Err(AllocError);
+        };
+        let Some(place) = found else {
+            return Ok(false);
+        };
+        let Ok(ends) = loading.push(alloc, lines.text(place)) else {
+            return Err(AllocError);
+        };
+        if ends {
+            return Ok(true);
+        }
+        if let Some(_) = loading.fault() {
+            return Ok(true);
         }
     }
 }

@@ -1,6 +1,7 @@
 //! The lines of a reader, one after another.
 ghost use Rattle.std.specs.Prelude.{◌≡◌, ◌≤◌, ◌<◌, ◌+◌, ◌^◌, [], ◌∷◌, List, ℕ, false, length, IfOk, IfErr, IfSome, None, true};
-ghost use Rattle.std.specs.Io.KnownBytes.{IsAtEnd};
+ghost use Rattle.std.specs.Io.KnownBytes.{IsAtEnd, Keeps};
+ghost use Rattle.nn_device.specs.Device.{FailedToReadOn};
 ghost use Rattle.nn_input.specs.Cut.{HasCome, HasEnded, IsCutTo, IsFresh, IsThere, IsToldOf, NextEnded, ReadOn, Refilled, ahead, line_blank, line_text, still_to_cut};
 
 use crate::blank::is_blank;
@@ -111,6 +112,24 @@ impl Lines {
         ensures failed { IfErr result (λ _. (input.new.failed ≡ true) × (input.new.given ≡ input.old.given)) }
     {
         let Ok(n) = input.read(&mut self.buffer) else {
+            return Err(ReadFailed);
+        };
+        self.from = 0;
+        self.to = n;
+        Ok(n > 0)
+    }
+
+    /// The same of an input that may go on for years: its reads are not counted.
+    pub fn refill_on<R: Read>(&mut self, input: &mut Reader<R>) -> Result<bool, ReadFailed>
+        requires { ahead self.old ≡ [] }
+        ensures more { IfOk result (λ _. Refilled input.old input.new self.old self.new) }
+        ensures some { IfOk result (λ more. more ≡ true → (input.old.given < input.new.given) × (input.old.given < 2 ^ 62)) }
+        ensures end { IfOk result (λ more. more ≡ false → IsAtEnd input.new.left) }
+        ensures none { IfOk result (λ more. more ≡ false → ahead self.new ≡ []) }
+        ensures few { length (ahead self.new) ≤ 2 ^ 16 }
+        ensures failed { IfErr result (λ _. Keeps input.old.left input.new.left × FailedToReadOn input.old input.new) }
+    {
+        let Ok(n) = input.read_on(&mut self.buffer) else {
             return Err(ReadFailed);
         };
         self.from = 0;

@@ -14,8 +14,8 @@ use Rattle.nn_device.specs.Device.{FailedToReadOn, IsRefusal, Reader}
 use Rattle.nn_model.specs.Namespace.{Namespace, Path, path_cmp}
 use Rattle.nn_model.specs.declared.form.Form.{Form}
 use Rattle.nn_tree.specs.Restore.{row_fits}
-use Rattle.nn_input.specs.Cut.{HasCome, HasEnded, IsFresh, Lines, Refilled, ahead, line_blank, line_text}
-use Rattle.nn_input.specs.Pieces.{is_unbroken, joined_lines}
+use Rattle.nn_input.specs.Cut.{HasCome, HasEnded, IsCutTo, IsFresh, Lines, Refilled, ahead, line_blank, line_text}
+use Rattle.nn_input.specs.Pieces.{joined_lines}
 use Rattle.nn_input.specs.declared.lines.Place.{Place}
 use Rattle.nn_input.proofs.Cuts.{come_ahead, come_both, comes_ahead, lines_come, none_came}
 use Rattle.nn_input.proofs.PieceLemmas.{joined_more}
@@ -24,7 +24,7 @@ use Rattle.nn_image.specs.Reading.{all_from, at_end_line, by_key, by_value, fiel
 use Rattle.nn_image.specs.declared.fault.ImageFault.{ImageFault}
 use Rattle.nn_image.specs.declared.fault.ImageFault.TheVariants.{NotHeader, BadLine, WrongOrder, CountMismatch, Truncated, BadVersion}
 use Rattle.nn_image.proofs.LoadedLines.{only_piece}
-use Rattle.nn_front.specs.Pull.{EndsWaiting, FailsWaiting, HasJudged, HasWaited, IsJudged, IsOpen, IsWaiting, LoadedAtOnce, Waits, WaitsOn, WaitsUntil, all_bytes}
+use Rattle.nn_front.specs.Pull.{FailsWaiting, HasJudged, HasWaited, IsJudged, IsWaiting, LoadedAtOnce, Waits, WaitsOn, all_bytes}
 use Rattle.nn_front.proofs.FrontCuts.{none_loaded, one_more}
 use Rattle.nn_front.proofs.FrontImages.{open_on, torn_open, whole_text}
 
@@ -162,6 +162,10 @@ fault_read at_header fault is = absurd (cc)
 fault_read (in_rows n txid) fault is = absurd (cc)
 fault_read (behind_end n txid) fault is = absurd (cc)
 fault_read (bad e) fault is = let same : e ≡ fault = cc in ap Err same
+
+-- where none has ended
+pub still_waits : (bytes : List ℕ) (l mid : Lines) (x : Loading) → IsCutTo all_bytes l mid → WaitsOn bytes l x → WaitsOn bytes mid x
+still_waits bytes l mid x cut h = record { lines = h.lines; come = cut bytes h.lines h.come; loaded = h.loaded; waits = h.waits; unended = h.unended; well = h.well }
 
 module _ (l mid : Lines) (p : Place) (x y : Loading) (text : List ℕ) (ends : (bytes : List ℕ) (lines : List (List ℕ)) → HasCome all_bytes bytes lines l → HasEnded all_bytes bytes lines p mid)
     (is : text ≡ line_text mid p) (few : length text < 2 ^ 63) (takes : TakesLine x y text) (bytes : List ℕ) (h : WaitsOn bytes l x) where

@@ -4,7 +4,8 @@ ghost use Rattle.std.specs.Str.{bytes_eq};
 ghost use Rattle.nn_image.specs.Loading.{loaded_from};
 ghost use Rattle.nn_input.specs.Cut.{IsFresh, IsToldOf, ahead};
 ghost use Rattle.nn_front.specs.Cut.{mark, max_passed};
-ghost use Rattle.nn_front.specs.Pull.{FrontRead, HasJudged, ImageRead, IsAtMark, IsNoObject, IsOpen, IsPassing, LoadedAtOnce, PassedOver, WaitsOn, WhyNoFront, WhyNotLoaded};
+ghost use Rattle.nn_front.specs.Pull.{FrontRead, LoadedAtOnce, WhyNoFront, WhyNotLoaded};
+ghost use Rattle.nn_front.specs.Pull.{HasJudged, ImageRead, IsAtMark, IsNoObject, IsOpen, IsPassing, PassedOver, WaitsOn};
 
 use nn_device::Reader;
 use nn_image::{ImageFault, Loading};
@@ -218,7 +219,8 @@ fn load_image<R: Read>(
 
 // Loads the lines that have ended in what was read, up to the end line, or the first that is refused. Whether there is one.
 fn push_lines(alloc: Global, lines: &mut Lines, loading: &mut Loading) -> Result<bool, AllocError>
-    ensures judged { IfOk result (λ judged. judged ≡ true → (bytes : List ℕ) → WaitsOn bytes lines.old loading.old → HasJudged bytes lines.new loading.new) }
+    ensures judged { IfOk result (λ judged. judged ≡ true
+        → (bytes : List ℕ) → WaitsOn bytes lines.old loading.old → HasJudged bytes lines.new loading.new) }
     ensures none { IfOk result (λ judged. judged ≡ false
         → ((bytes : List ℕ) → WaitsOn bytes lines.old loading.old → WaitsOn bytes lines.new loading.new) × (ahead lines.new ≡ [])) }
 {

@@ -256,15 +256,9 @@ def check_entrants(tally, feed_port, token):
     try:
         for connection in crowd:
             connection.sendall(head.encode())
-        # On a busy machine the crowd's heads may not be read yet, and then the answer is to ask again.
-        for _ in range(10):
-            with socket.create_connection(("127.0.0.1", feed_port), SECONDS) as connection:
-                connection.sendall(f"GET /health HTTP/1.1\r\nHost: 127.0.0.1:{feed_port}\r\nAuthorization: Bearer {token}\r\n\r\n".encode())
-                first = connection.makefile("rb").readline().decode()
-            if "503" not in first:
-                break
-            time.sleep(1)
-        tally.contains("slow forms keep no operator out", first, "HTTP/1.1 200 ")
+        with socket.create_connection(("127.0.0.1", feed_port), SECONDS) as connection:
+            connection.sendall(f"GET /health HTTP/1.1\r\nHost: 127.0.0.1:{feed_port}\r\nAuthorization: Bearer {token}\r\n\r\n".encode())
+            tally.contains("slow forms keep no operator out", connection.makefile("rb").readline().decode(), "HTTP/1.1 200 ")
     finally:
         for connection in crowd:
             connection.close()

@@ -227,7 +227,7 @@ def words_of_help():
 def words_of_answers():
     """The words in the texts of which the definitions of output are made, without the worked examples."""
     found = set()
-    for crate in ("nn_live", "nn_listing", "nn_engine", "nn_types"):
+    for crate in ("nn_live", "nn_listing", "nn_run", "nn_types"):
         for name in specs_of(crate):
             if not definitions.is_rows(name) and (crate, name) not in {("nn_live", "Words"), ("nn_live", "Help")}:
                 for text in re.findall(r'\bcodes "([^"]*)"', read(f"crates/{crate}/specs/{name}.antt")):

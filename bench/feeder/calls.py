@@ -13,11 +13,10 @@ import tempfile
 import time
 from collections import Counter
 
-from driving import FEED, Failed, Feed, Place
+from driving import FEED, Failed, Feed, Place, preloaded
 from logs import files, full_report
 from teeth import faults
 
-HERE = os.path.dirname(os.path.realpath(__file__))
 ERRORS = {
     "openat": ("EIO", "ENOSPC", "ESTALE", "EACCES", "EINTR", "ENOENT"),
     "read": ("EIO", "ESTALE", "EINTR"),
@@ -216,9 +215,7 @@ class Trials:
     def short(self):
         """All reads and writes are short; and standard error is full."""
         place = self.place("short")
-        library = os.path.join(self.folder, "short.so")
-        subprocess.run(["cc", "-shared", "-fPIC", "-O2", "-o", library, os.path.join(HERE, "short.c"), "-ldl"], check=True)
-        how = {**os.environ, "LD_PRELOAD": library, "SHORT_BELOW": place.folder}
+        how = preloaded(self.folder, SHORT_BELOW=place.folder)
         yield "each read and write is short", Scenario(place, (), how, self.feed).run()
 
     def full(self):

@@ -13,7 +13,8 @@ import time
 
 from logs import name_of
 
-FEED = os.path.join(os.path.dirname(os.path.realpath(__file__)), "..", "..", "feed", "zulurowan-feed")
+HERE = os.path.dirname(os.path.realpath(__file__))
+FEED = os.path.join(HERE, "..", "..", "feed", "zulurowan-feed")
 SECONDS = 20
 PAUSE = 0.02
 
@@ -47,6 +48,13 @@ class Tally:
 def shortened(value):
     text = repr(value)
     return text if len(text) <= 2000 else f"{text[:1000]} .. {text[-1000:]}"
+
+
+def preloaded(folder, **settings):
+    """The surroundings of a feeder whose calls go through the library of preloaded.c, which is built into a folder."""
+    library = os.path.join(folder, "preloaded.so")
+    subprocess.run(["cc", "-shared", "-fPIC", "-O2", "-o", library, os.path.join(HERE, "preloaded.c"), "-ldl"], check=True)
+    return {**os.environ, "LD_PRELOAD": library, **settings}
 
 
 def until(what, is_so):

@@ -20,7 +20,7 @@ OEV = os.path.join(HERE, "..", "..", "examples", "oev")
 sys.path.append(OEV)
 
 from cases import add, block, close, document, end, mkdir, record, start
-from driving import SECONDS, Failed, Feed, Place, Tally, until
+from driving import SECONDS, Failed, Feed, Place, Tally, preloaded, until
 from hostile import check_bodies, check_callers
 from kills import check_kills
 from logs import FIRST_ID, directories, edit, files, full_report, lines_of, name_of, report, segment
@@ -456,6 +456,8 @@ def check_token(tally, place):
     tally.same("without the token", ask("GET", "/status")[0], 401)
     tally.same("with another one", ask("GET", "/status", Authorization="Bearer x")[0], 401)
     until("TXID 7", lambda: json.loads(ask("GET", "/status", Authorization=f"Bearer {token}")[1])["txid"] == 7)
+    # On a slow disk, what it saw is kept later than that.
+    until("it is healthy", lambda: ask("GET", "/health", Authorization=f"Bearer {token}")[0] == 200)
     status, page, _ = ask("GET", "/")
     tally.same("a browser is asked for it", (status, 'name="token"' in page), (401, True))
     tally.same("a form with another one", ask("POST", "/enter", "token=x", **form)[0], 401)
@@ -546,7 +548,7 @@ def check_arguments(tally, place):
     tally.same("an argument that the program refuses", feed.ended(), 1)
 
 
-# An idle machine takes a tenth of it.
+# An idle machine takes a fifth of it.
 LIMIT_SECONDS = 300
 
 PARTS = [
@@ -597,13 +599,15 @@ def run(part, tally, folder, program, seconds):
         place.end()
 
 
-def driven(program, names):
-    """Runs the parts, or those of these names. Answers how many cases failed."""
+def driven(program, names, slow=0):
+    """Runs the parts, or those of these names, on a disk that takes so many milliseconds more for each sync. Answers how many cases failed."""
     tally = Tally()
     resource.setrlimit(resource.RLIMIT_NOFILE, (resource.getrlimit(resource.RLIMIT_NOFILE)[1],) * 2)
     signal.signal(signal.SIGALRM, out_of_time)
     end_of_time = time.monotonic() + LIMIT_SECONDS
     with tempfile.TemporaryDirectory() as folder:
+        if slow:
+            Feed.environment = preloaded(folder, SLOW_SYNC=str(1000 * slow))
         for part in PARTS:
             if not names or part.__name__[len("check_") :] in names:
                 run(part, tally, folder, program, end_of_time - time.monotonic())

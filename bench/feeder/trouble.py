@@ -3,6 +3,7 @@ import concurrent.futures
 import json
 import os
 import resource
+import select
 import signal
 import socket
 import stat
@@ -14,6 +15,8 @@ from logs import files, name_of, report
 
 # The bytes of long bodies that there is room for, and the memory of a feeder that has as many.
 LONG_BODIES, MEMORY_MB = 268_435_456, 480
+# So many more are sent.
+TOO_MANY = 2
 CONNECTIONS = 4096
 SLOW_BYTES = 64 * 2**30
 OPERATORS = 8
@@ -214,7 +217,7 @@ def check_long_bodies(tally, feed):
     most, blanks = LONG_BODIES // BODY_BYTES, b" " * (BODY_BYTES - 1)
     crowd = []
     try:
-        for _ in range(most + 2):
+        for _ in range(most + TOO_MANY):
             crowd.append(socket.create_connection(("127.0.0.1", feed.port), 3 * SECONDS))
             crowd[-1].sendall(head.encode())
             try:
@@ -222,7 +225,10 @@ def check_long_bodies(tally, feed):
             except OSError:
                 # It is sent away in the middle.
                 pass
-        tally.contains("a body too many", crowd[-1].makefile("rb").readline().decode(), "HTTP/1.1 503 ")
+        # Which ones are sent away is the order in which their bytes are read: those that came while there was no room.
+        sent_away = until("some are sent away", lambda: len(found := answered(crowd)) >= TOO_MANY and found)
+        told = [connection.makefile("rb").readline().decode() for connection in sent_away]
+        tally.same("bodies too many", told, ["HTTP/1.1 503 Service Unavailable\r\n"] * TOO_MANY)
         tally.same("a short one is taken", feed.report(report(1, 0))[0], 200)
         with open(f"/proc/{feed.process.pid}/status") as file:
             memory = int(next(line for line in file if line.startswith("VmHWM")).split()[1]) // 1000
@@ -231,6 +237,11 @@ def check_long_bodies(tally, feed):
         for connection in crowd:
             connection.close()
     until("room again", lambda: feed.ask("POST", "/report", json.dumps(report(1, 0)).ljust(BODY_BYTES))[0] == 200)
+
+
+def answered(connections):
+    """Those of them that have something to read."""
+    return select.select(connections, [], [], 0)[0]
 
 
 def check_heads(tally, feed):

@@ -137,7 +137,7 @@ inline report(i) {
 #endif
 }
 
-/* nn_drive/src/driving.rt work 9a9fc3b35dd3 */
+/* nn_drive/src/driving.rt work f96dba7e3f5d */
 /* nn_drive/src/reporting.rt report_all_at 84ccc7707a0a */
 proctype worker(byte i) {
   byte n = 0;       /* messages accepted */
@@ -332,9 +332,9 @@ active proctype standby() {
     :: else
     fi
   };
-  /* nn_drive/src/rotation.rt rotate d8d637e55704 */
+  /* nn_drive/src/rotation.rt Rotation::rotate 80459a3cfc9b */
   do
-  :: /* nn_drive/src/rotation.rt still_running 145a2c1346e2 */
+  :: /* nn_drive/src/rotation.rt Rotation::still_running 7c700d5f7ed7 */
      /* nn_drive/src/bells.rt Bells::ended 4f83f209aedd */
      atomic {
        running = W - ended;                                /* a load, and then the operator is asked */
@@ -346,7 +346,7 @@ active proctype standby() {
        :: held < HOLDS && (running > 0 || applied < FEED * TXS) -> holds = true; held++
        fi
      };
-     /* nn_drive/src/rotation.rt rest b99ee8936024 */
+     /* nn_drive/src/rotation.rt Rotation::rest 63840161ec16 */
      if
      :: !is_left ->
 #ifdef LOG_BEFORE_DOZE
@@ -399,9 +399,9 @@ round:
 #ifndef CLEAR_BEHIND_VISITS
      clear();
 #endif
-     /* nn_drive/src/rotation.rt take_round 74dbcbccaa3c */
+     /* nn_drive/src/rotation.rt Rotation::take_round 6e4c5bc1a039 */
      take_log((AHEAD > W -> AHEAD : W));
-     /* nn_drive/src/rotation.rt take_lanes ca4b6eadb518 */
+     /* nn_drive/src/rotation.rt Rotation::take_lanes adda33232ba6 */
      is_left = false; i = 0;
      do
      :: i < W ->
@@ -442,8 +442,8 @@ round:
      clear()
 #endif
   od;
-  /* nn_drive/src/serving/calls.rt serve_over 171e84218407 */
-  /* nn_drive/src/driving.rt run 63bd122d4167 */
+  /* nn_drive/src/serving/calls.rt Rotation::serve_over 3420385ef2ed */
+  /* nn_drive/src/driving.rt Crew::run 377ad8dd330f */
 #if defined(WAKE_ALL_BEFORE_CLOSE)
   wake_all(); close_intake();
 #elif defined(CLOSE_WAKES_NOBODY)
@@ -477,7 +477,7 @@ round:
   promoted = true;
   goto join;
 give_up:
-  /* nn_drive/src/driving.rt give_up 221ef826541b */
+  /* nn_drive/src/driving.rt Crew::give_up 3ab198b6045d */
   close_intake();
 #ifndef GIVES_UP_UNHEARD
   wake_all();

@@ -1,4 +1,4 @@
-//! How far a text goes before a byte, looked for in 16 bytes at a time, and where a line ends.
+//! How far a text goes before a byte, looked for in 16 bytes at a time; and where a line ends, and whether it is blank.
 #![tactic(auto)]
 
 ghost use Rattle.std.specs.Prelude.{◌≡◌, ◌+◌, ◌≤◌, ◌==◌, length, take, drop, not};
@@ -7,7 +7,7 @@ ghost use Rattle.nn_bytes.specs.Runs.{is_other, is_neither};
 
 mod lines;
 
-pub use lines::line_end;
+pub use lines::{is_blank, line_end};
 use std::simd::prelude::*;
 
 /// How many bytes stand before the first `byte`, or in all where there is none.

@@ -1,7 +1,7 @@
-//! Where a line ends.
+//! Where a line ends, and whether it is blank.
 ghost use Rattle.std.specs.Prelude.{◌≡◌, ◌≢◌, ◌≤◌, ◌<◌, ◌==◌, ℕ, length, slice_index};
 ghost use Rattle.std.specs.List.{position_or_len};
-ghost use Rattle.nn_bytes.specs.Lines.{line_feed};
+ghost use Rattle.nn_bytes.specs.Lines.{is_blank, line_feed};
 
 use memchr::memchr;
 
@@ -21,4 +21,12 @@ fn first_feed(bytes: &[u8]) -> usize
     ensures there { result < length bytes.now → slice_index bytes.now result ≡ line_feed }
 {
     memchr(b'\n', bytes).unwrap_or(bytes.len())
+}
+
+/// Whether there are only spaces, tabs and carriage returns: such a line counts, and says nothing.
+pub fn is_blank(text: &[u8]) -> bool
+    ensures { result ≡ is_blank text.now }
+{
+    text.iter()
+        .all(|b| *b == b' ' || *b == b'\t' || *b == b'\r')
 }

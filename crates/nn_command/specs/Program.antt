@@ -8,9 +8,9 @@ use Rattle.clap.specs.declared.error.kind.ErrorKind.TheVariants as why
 use Rattle.nn_bytes.specs.Lines.{line_feed}
 use Rattle.nn_types.specs.Fault.{name_in, fault_name}
 use Rattle.nn_types.specs.Settings.{Settings}
-use Rattle.nn_engine.specs.declared.engine.Options.{Options as RunOptions}
-use Rattle.nn_engine.specs.declared.output.RunFault.{RunFault}
-use Rattle.nn_engine.specs.Run.{Given, WroteOutput, WroteOutputPrefix, running}
+use Rattle.nn_run.specs.declared.engine.Options.{Options as RunOptions}
+use Rattle.nn_run.specs.declared.output.RunFault.{RunFault}
+use Rattle.nn_run.specs.Run.{Given, WroteOutput, WroteOutputPrefix, running}
 use Rattle.nn_command.specs.declared.program.ArgumentsFault.{ArgumentsFault}
 use Rattle.nn_command.specs.declared.program.ArgumentsFault.TheVariants.{NotText, OutOfMemory}
 use Rattle.nn_command.specs.declared.options.Request.{Request}

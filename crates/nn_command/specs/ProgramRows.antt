@@ -10,9 +10,9 @@ use Rattle.nn_types.specs.Fault.{fault_name}
 use Rattle.nn_types.specs.Settings.{Settings}
 use Rattle.nn_scenario.specs.Cut.{segments_from, parts_from}
 use Rattle.nn_scenario.specs.Scenario.{Scenario, scenario_of, scenario_with, lines_from}
-use Rattle.nn_engine.specs.Output.{Printed, AreEventsOf, output_of, with_history}
-use Rattle.nn_engine.specs.Start.{from_root}
-use Rattle.nn_engine.specs.declared.engine.Options.{Options as RunOptions}
+use Rattle.nn_run.specs.Output.{Printed, AreEventsOf, output_of, with_history}
+use Rattle.nn_run.specs.Start.{from_root}
+use Rattle.nn_run.specs.declared.engine.Options.{Options as RunOptions}
 use Rattle.nn_command.specs.declared.program.ArgumentsFault.TheVariants.{NotText, OutOfMemory}
 use Rattle.nn_command.specs.declared.options.Request.{Request}
 use Rattle.nn_command.specs.Options.{settings_line, lanes_line, command_line, ReadsAs, IsNumberOf, IsCapacity, AreReadAs, IsFlag, IsRequest, AskAs, is_contradictory}

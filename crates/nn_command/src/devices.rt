@@ -2,7 +2,7 @@
 use crate::program;
 use crate::program::{ArgumentsFault, serve};
 use nn_device::{Reader, Writer};
-use nn_engine::Open;
+use nn_run::Open;
 use std::alloc::Global;
 use std::env::FillError;
 use std::process::ExitCode;

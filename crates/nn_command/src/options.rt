@@ -9,7 +9,7 @@ ghost use Rattle.nn_command.specs.Program.{AreTaken, WhyNot};
 use clap::builder::ValueParser;
 use clap::error::ErrorKind;
 use clap::{Arg, ArgAction, ArgMatches, Command, Error, value_parser};
-use nn_engine::Options;
+use nn_run::Options;
 use nn_types::Settings;
 use nn_types::limits::{MAX_CAPACITY, MAX_REPLICATION};
 use std::alloc::{AllocError, Global};

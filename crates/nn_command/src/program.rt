@@ -2,7 +2,7 @@
 ghost use Rattle.std.specs.Prelude.{◌≡◌, ◌≤◌, ◌⊎◌, ℕ, List, false, IfOk, IfErr, IfSome, map, string_bytes};
 ghost use Rattle.nn_device.specs.Device.{Took, FailedToWrite};
 ghost use Rattle.clap.specs.Words.{kind_of};
-ghost use Rattle.nn_engine.specs.Run.{running};
+ghost use Rattle.nn_run.specs.Run.{running};
 ghost use Rattle.nn_command.specs.Program.{EndsAsAsked, WritesRun, EndsService, Explains, LacksMemory, Serves, ServesNone, TellsOf, WritesText, explanation_line, memory_line, no_reader, streams, version_line};
 ghost use Rattle.nn_types.specs.Limits.{max_capacity};
 
@@ -10,8 +10,8 @@ use crate::options;
 use crate::options::{Request, VERSION};
 use clap::error::ErrorKind;
 use nn_device::{Reader, Writer};
-use nn_engine::{Gate, Options, ThreadOptions, run, run_threads};
 use nn_live::{LiveOptions, run_live};
+use nn_run::{Gate, Options, ThreadOptions, run, run_threads};
 use nn_types::fault::explanation;
 use std::alloc::{AllocError, Global};
 use std::io::{Read, Write};

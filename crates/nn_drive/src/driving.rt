@@ -5,17 +5,18 @@ ghost use Rattle.nn_lane_standby.specs.LaneSteps.{AllClosed};
 ghost use Rattle.nn_lane_standby.specs.Tailing.{has_begun};
 ghost use Rattle.nn_drive.specs.Fault.{number_of};
 ghost use Rattle.nn_drive.specs.Refusals.{drive_refusal};
-ghost use Rattle.nn_drive.specs.Driven.{HasReported, ArePromised, WentUntil, Stayed, PromotesAtEnd, IsTold, JoinsAll, AreOneLane, EndsAgree, HaveReporters, IsDriven, NotDriven};
+ghost use Rattle.nn_drive.specs.Driven.{HasReported, IsPromised, ArePromised, WentUntil, Stayed, PromotesAtEnd, IsTold, JoinsAll, AreOneLane, EndsAgree, HaveReporters, IsDriven, NotDriven};
 ghost use Rattle.nn_feed.specs.Ends.{got_by, IsSameEnd};
 ghost use Rattle.nn_feed.specs.Feeds.{has_last};
 ghost use Rattle.nn_drive.specs.Feeding.{FailsOver, GotMore, IsDrivenOver, IsKnown};
 ghost use Rattle.nn_drive.specs.declared.driving.DriveFault.{DriveFault as Why};
 
 use crate::bells::Bells;
-use crate::feeding::{drop_feed, end_feed, start_feed, told_fault};
+use crate::crew::Crew;
+use crate::feeding::{drop_feed, end_feed, told_fault};
 use crate::operator::Unattended;
 use crate::reporting::{ReportSource, report_all, report_all_at};
-use crate::rotation::{fault_of, rotate};
+use crate::rotation::{Rotation, fault_of};
 use crate::serving::Feeding;
 use nn_feed::FeedEnd;
 use nn_lane::{LaneEnd, Refusal, Reporter, meet};
@@ -26,7 +27,7 @@ use nn_types::fault;
 use std::alloc::Global;
 use std::snapshot::Snapshot;
 use std::sync::Wait;
-use std::thread::{Promise, PromisedHandle, Scope, Threads};
+use std::thread::{Promise, PromisedHandle, Threads};
 use std::{fmt, thread};
 use thiserror::Error;
 
@@ -88,19 +89,17 @@ impl DriveFault {
     }
 }
 
-// What the thread of this worker runs.
+// What the thread of a worker runs, which stands at this index among the workers.
 pub(crate) fn work<S: ReportSource, R: Wait>(
     rt: &R,
-    source: S,
-    reporter: Reporter,
+    worker: (S, Reporter),
     bells: &Bells,
-    worker: usize,
+    index: usize,
 ) -> WorkerExit<S>
-    ensures { HasReported S.gives source reporter result }
+    ensures { HasReported S.gives worker.0 worker.1 result }
 {
-    let mut source = source;
-    let mut reporter = reporter;
-    let outcome = match bells.place(worker) {
+    let (mut source, mut reporter) = worker;
+    let outcome = match bells.place(index) {
         Some(place) => report_all_at(rt, &mut source, &mut reporter, place),
         // Each worker has one.
         None => report_all(rt, &mut source, &mut reporter),
@@ -111,47 +110,6 @@ pub(crate) fn work<S: ReportSource, R: Wait>(
         reporter,
         outcome,
     }
-}
-
-// One worker on a thread of the scope.
-fn start<'s, E, S: ReportSource + Send + Drop + 's, R: Wait + Sync>(
-    scope: &Scope<'s, E>,
-    rt: &'s R,
-    source: S,
-    reporter: Reporter,
-    bells: &'s Bells,
-    worker: usize,
-) -> Option<PromisedHandle<WorkerExit<S>, WorkerPromise<S>>>
-    ensures { IfSome result (λ h. (h.promise.0.value ≡ source) × (h.promise.1.value ≡ reporter)) }
-{
-    let promise = WorkerPromise(Snapshot::of(&source), Snapshot::of(&reporter));
-    let run = move || -> WorkerExit<S>
-        ensures { HasReported S.gives source reporter result }
-    { work(rt, source, reporter, bells, worker) };
-    scope.spawn_with(promise, run).ok()
-}
-
-// A thread for each worker, in order; fewer where memory or threads run out, and the other workers are dropped.
-fn start_all<'s, E, S: ReportSource + Send + Drop + 's, R: Wait + Sync>(
-    scope: &Scope<'s, E>,
-    rt: &'s R,
-    alloc: Global,
-    workers: Vec<(S, Reporter)>,
-    bells: &'s Bells,
-) -> Vec<PromisedHandle<WorkerExit<S>, WorkerPromise<S>>>
-    ensures { ArePromised workers.items result.items }
-{
-    let Ok(mut handles) = Vec::with_capacity(alloc, workers.len()) else {
-        return Vec::new(alloc);
-    };
-    for (source, reporter) in workers {
-        let worker = handles.len();
-        let Some(handle) = start(scope, rt, source, reporter, bells, worker) else {
-            return handles;
-        };
-        handles.push_reserved(handle);
-    }
-    handles
 }
 
 // Whether as many threads were started as there are workers.
@@ -198,32 +156,6 @@ fn join_all<S: ReportSource + Drop, R: Threads>(
     (reporters, told)
 }
 
-// Gives a standby up for a fault: its lanes are closed, of which each worker learns by its next report, and all are woken for
-// it; what the feed still brings is dropped, and the workers are joined. Answers what a drive answers for the fault.
-fn give_up<'a, S: ReportSource + Drop, R: Threads + Wait>(
-    rt: &R,
-    standby: Standby,
-    end: &mut FeedEnd<'a, R>,
-    handles: Vec<PromisedHandle<WorkerExit<S>, WorkerPromise<S>>>,
-    bells: &Bells,
-    fault: DriveFault,
-) -> DriveFault
-    ensures same { IsSameEnd end.old end.new }
-    ensures more { GotMore (got_by end.old) (got_by end.new) }
-    ensures known { IsKnown fault (has_last (got_by end.old)) result }
-{
-    let known = told_fault(end, fault);
-    let mut standby = standby;
-    standby.close_intake();
-    drop(standby);
-    bells.wake_all();
-    drop_feed(rt, end);
-    for handle in handles {
-        drop(handle.join(rt));
-    }
-    known
-}
-
 // Ends each lane.
 fn meet_all(ends: Vec<LaneEnd>, reporters: Vec<Reporter>)
     requires { AllZip AreOneLane ends.items reporters.items }
@@ -260,57 +192,6 @@ pub(crate) fn promote<T: SegmentSource>(
     }
 }
 
-// Runs the workers on threads of the scope and the standby on this one, over the end of a feed, up to the promotion.
-fn run<'s, 'a, E, S: ReportSource + Send + Drop + 's, R: Threads + Wait + Sync>(
-    scope: &Scope<'s, E>,
-    rt: &'s R,
-    alloc: Global,
-    standby: Standby,
-    end: &mut FeedEnd<'a, R>,
-    workers: Vec<(S, Reporter)>,
-    reporters: Vec<Reporter>,
-    bells: &'s Bells,
-) -> Result<(Shadow, Active), DriveFault>
-    requires serving { has_begun standby ≡ false }
-    requires lanes { HaveReporters workers.items standby.ends }
-    requires none { reporters.items ≡ [] }
-    requires room { length workers.items ≤ vec_capacity reporters }
-    ensures same { IsSameEnd end.old end.new }
-    ensures ok { IfOk result (λ r. IsDrivenOver S.gives standby end.old workers.items end.new r.0 r.1) }
-    ensures err { IfErr result (λ fault. FailsOver standby end.old end.new fault) }
-{
-    let mut standby = standby;
-    let count = workers.len();
-    let handles = start_all(scope, rt, alloc, workers, bells);
-    let started = handles.len();
-    if !all_started(started, count) {
-        let fault = DriveFault::OutOfMemory;
-        return Err(give_up(rt, standby, end, handles, bells, fault));
-    }
-    let mut operator = Unattended;
-    if let Err(fault) = rotate(rt, &mut standby, end, &mut operator, bells, started, AHEAD) {
-        return Err(give_up(rt, standby, end, handles, bells, fault));
-    }
-    let (reporters, told) = join_all(rt, standby.ends(), handles, reporters);
-    if told {
-        // A reporter was told of a close, and the end of its lane is open: they cannot meet.
-        let (_shadow, ends) = standby.into_parts();
-        meet_all(ends, reporters);
-        unreachable!();
-    }
-    standby.close_intake();
-    let active = match promote(&mut standby, end) {
-        Ok(active) => active,
-        Err(fault) => {
-            let joined = Vec::new(alloc);
-            return Err(give_up::<S, R>(rt, standby, end, joined, bells, fault));
-        }
-    };
-    let (shadow, ends) = standby.into_parts();
-    meet_all(ends, reporters);
-    Ok((shadow, active))
-}
-
 // Why a drive or a service of this standby is refused before it begins.
 pub(crate) fn refusal(standby: &Standby) -> Option<DriveFault>
     ensures { result ≡ drive_refusal standby.now }
@@ -322,49 +203,149 @@ pub(crate) fn refusal(standby: &Standby) -> Option<DriveFault>
     Some(DriveFault::Stopped(stop))
 }
 
-// The rest of `drive`, inside its scope.
-fn drive_in<
-    's,
-    E,
-    T: SegmentSource + Send + Drop + 's,
-    S: ReportSource + Send + Drop + 's,
-    R: Threads + Wait + Sync,
->(
-    scope: &Scope<'s, E>,
-    rt: &'s R,
-    alloc: Global,
-    standby: Standby,
-    source: T,
-    workers: Vec<(S, Reporter)>,
-    bells: &'s Bells,
-) -> Result<(Shadow, Active), DriveFault>
-    requires serving { has_begun standby ≡ false }
-    requires lanes { HaveReporters workers.items standby.ends }
-    ensures ok { IfOk result (λ r. IsDriven T.gives T.failures S.gives standby source workers.items r.0 r.1) }
-    ensures err { IfErr result (λ fault. NotDriven T.gives T.failures standby source fault) }
-{
-    // What is owned is dropped by name. That is cheaper to prove than to leave it to each exit.
-    let Ok(reporters) = Vec::with_capacity(alloc, workers.len()) else {
-        drop(standby);
-        return Err(DriveFault::OutOfMemory);
-    };
-    let Ok(bell) = bells.of_standby() else {
-        drop(standby);
-        return Err(DriveFault::OutOfMemory);
-    };
-    let Some(feeding) = start_feed(scope, rt, alloc, source, bell) else {
-        drop(standby);
-        return Err(DriveFault::OutOfMemory);
-    };
-    let Feeding { mut end, handle } = feeding;
-    let outcome = run(
-        scope, rt, alloc, standby, &mut end, workers, reporters, bells,
-    );
-    if !end_feed(rt, end, handle) {
-        drop(outcome);
-        return Err(DriveFault::OutOfMemory);
+impl<'s, E, R: Threads + Wait + Sync> Crew<'s, E, R> {
+    // One worker on a thread of the scope.
+    fn start<S: ReportSource + Send + Drop + 's>(
+        &self,
+        worker: (S, Reporter),
+        index: usize,
+    ) -> Option<PromisedHandle<WorkerExit<S>, WorkerPromise<S>>>
+        ensures { IfSome result (λ handle. IsPromised worker handle) }
+    {
+        let (rt, bells) = (self.rt, self.bells);
+        let promise = WorkerPromise(Snapshot::of(&worker.0), Snapshot::of(&worker.1));
+        let run = move || -> WorkerExit<S>
+            ensures { HasReported S.gives worker.0 worker.1 result }
+        { work(rt, worker, bells, index) };
+        self.scope.spawn_with(promise, run).ok()
     }
-    outcome
+
+    // A thread for each worker, in order; fewer where memory or threads run out, and the other workers are dropped.
+    fn start_all<S: ReportSource + Send + Drop + 's>(
+        &self,
+        workers: Vec<(S, Reporter)>,
+    ) -> Vec<PromisedHandle<WorkerExit<S>, WorkerPromise<S>>>
+        ensures { ArePromised workers.items result.items }
+    {
+        let Ok(mut handles) = Vec::with_capacity(self.alloc, workers.len()) else {
+            return Vec::new(self.alloc);
+        };
+        for worker in workers {
+            let index = handles.len();
+            let Some(handle) = self.start(worker, index) else {
+                return handles;
+            };
+            handles.push_reserved(handle);
+        }
+        handles
+    }
+
+    // Gives a standby up for a fault: its lanes are closed, of which each worker learns by its next report, and all are woken for
+    // it; what the feed still brings is dropped, and the workers are joined. Answers what a drive answers for the fault.
+    fn give_up<'a, S: ReportSource + Drop>(
+        &self,
+        standby: Standby,
+        end: &mut FeedEnd<'a, R>,
+        handles: Vec<PromisedHandle<WorkerExit<S>, WorkerPromise<S>>>,
+        fault: DriveFault,
+    ) -> DriveFault
+        ensures same { IsSameEnd end.old end.new }
+        ensures more { GotMore (got_by end.old) (got_by end.new) }
+        ensures known { IsKnown fault (has_last (got_by end.old)) result }
+    {
+        let known = told_fault(end, fault);
+        let mut standby = standby;
+        standby.close_intake();
+        drop(standby);
+        self.bells.wake_all();
+        drop_feed(self.rt, end);
+        for handle in handles {
+            drop(handle.join(self.rt));
+        }
+        known
+    }
+
+    // Runs the workers on threads of the scope and the standby on this one, over the end of a feed, up to the promotion.
+    fn run<'a, S: ReportSource + Send + Drop + 's>(
+        &self,
+        standby: Standby,
+        end: &mut FeedEnd<'a, R>,
+        workers: Vec<(S, Reporter)>,
+        reporters: Vec<Reporter>,
+    ) -> Result<(Shadow, Active), DriveFault>
+        requires serving { has_begun standby ≡ false }
+        requires lanes { HaveReporters workers.items standby.ends }
+        requires none { reporters.items ≡ [] }
+        requires room { length workers.items ≤ vec_capacity reporters }
+        ensures same { IsSameEnd end.old end.new }
+        ensures ok { IfOk result (λ r. IsDrivenOver S.gives standby end.old workers.items end.new r.0 r.1) }
+        ensures err { IfErr result (λ fault. FailsOver standby end.old end.new fault) }
+    {
+        let mut standby = standby;
+        let count = workers.len();
+        let handles = self.start_all(workers);
+        let started = handles.len();
+        if !all_started(started, count) {
+            return Err(self.give_up(standby, end, handles, DriveFault::OutOfMemory));
+        }
+        let rotation = Rotation {
+            rt: self.rt,
+            bells: self.bells,
+            started,
+            ahead: AHEAD,
+        };
+        if let Err(fault) = rotation.rotate(&mut standby, end, &mut Unattended) {
+            return Err(self.give_up(standby, end, handles, fault));
+        }
+        let (reporters, told) = join_all(self.rt, standby.ends(), handles, reporters);
+        if told {
+            // A reporter was told of a close, and the end of its lane is open: they cannot meet.
+            let (_shadow, ends) = standby.into_parts();
+            meet_all(ends, reporters);
+            unreachable!();
+        }
+        standby.close_intake();
+        let active = match promote(&mut standby, end) {
+            Ok(active) => active,
+            Err(fault) => {
+                let joined = Vec::new(self.alloc);
+                return Err(self.give_up::<S>(standby, end, joined, fault));
+            }
+        };
+        let (shadow, ends) = standby.into_parts();
+        meet_all(ends, reporters);
+        Ok((shadow, active))
+    }
+
+    // The rest of `drive`, inside its scope.
+    fn drive_in<T: SegmentSource + Send + Drop + 's, S: ReportSource + Send + Drop + 's>(
+        &self,
+        standby: Standby,
+        source: T,
+        workers: Vec<(S, Reporter)>,
+    ) -> Result<(Shadow, Active), DriveFault>
+        requires serving { has_begun standby ≡ false }
+        requires lanes { HaveReporters workers.items standby.ends }
+        ensures ok { IfOk result (λ r. IsDriven T.gives T.failures S.gives standby source workers.items r.0 r.1) }
+        ensures err { IfErr result (λ fault. NotDriven T.gives T.failures standby source fault) }
+    {
+        // What is owned is dropped by name. That is cheaper to prove than to leave it to each exit.
+        let Ok(reporters) = Vec::with_capacity(self.alloc, workers.len()) else {
+            drop(standby);
+            return Err(DriveFault::OutOfMemory);
+        };
+        let Some(feeding) = self.start_feed(source) else {
+            drop(standby);
+            return Err(DriveFault::OutOfMemory);
+        };
+        let Feeding { mut end, handle } = feeding;
+        let outcome = self.run(standby, &mut end, workers, reporters);
+        if !end_feed(self.rt, end, handle) {
+            drop(outcome);
+            return Err(DriveFault::OutOfMemory);
+        }
+        outcome
+    }
 }
 
 /// Runs the source of segments and each worker on a thread of its own, and the standby on this one: it steps the log,
@@ -415,6 +396,14 @@ pub fn drive<
             requires lanes { HaveReporters workers.items standby.ends }
             ensures ok { IfOk result (λ r. IsDriven T.gives T.failures S.gives standby source workers.items r.0 r.1) }
             ensures err { IfErr result (λ fault. NotDriven T.gives T.failures standby source fault) }
-        { drive_in(scope, rt, alloc, standby, source, workers, bells) },
+        {
+            let crew = Crew {
+                scope,
+                rt,
+                alloc,
+                bells,
+            };
+            crew.drive_in(standby, source, workers)
+        },
     )
 }

@@ -5,88 +5,87 @@ ghost use Rattle.nn_feed.specs.Feeds.{has_last};
 ghost use Rattle.nn_feed.specs.Running.{HasRun};
 ghost use Rattle.nn_drive.specs.Feeding.{GotMore, HasAnswered, IsKnown};
 
+use crate::crew::{Crew, ServiceCrew};
 use crate::driving::DriveFault;
+use crate::reporting::ReportSource;
 use crate::serving::Feeding;
-use nn_feed::{
-    Bell, Delivered, FeedEnd, Feeder, FeederExit, FeederPromise, feed, meet, run_thread,
-};
+use nn_feed::{Delivered, FeedEnd, Feeder, FeederExit, FeederPromise, feed, meet, run_thread};
 use nn_segment::{Item, SegmentSource};
-use std::alloc::Global;
 use std::snapshot::Snapshot;
-use std::sync::{Arc, Wait};
+use std::sync::Wait;
 use std::thread;
-use std::thread::{PromisedHandle, Scope, Threads};
+use std::thread::{PromisedHandle, Threads};
 
-// A feed of this source, which rings this bell, and its feeder on a thread of the scope.
-pub(crate) fn start_feed<'s, E, T: SegmentSource + Send + Drop + 's, R: Wait + Sync>(
-    scope: &Scope<'s, E>,
-    rt: &'s R,
-    alloc: Global,
-    source: T,
-    bell: Arc<Bell, Global>,
-) -> Option<Feeding<'s, T, R>>
-    ensures source { IfSome result (λ f. f.handle.promise.0.value ≡ source) }
-    ensures empty { IfSome result (λ f. got_by f.end ≡ []) }
-{
-    let (feeder, end) = feed(rt, alloc, bell).ok()?;
-    let handle = start_feeder(scope, rt, source, feeder)?;
-    Some(Feeding { end, handle })
+impl<'s, E, R: Wait + Sync> Crew<'s, E, R> {
+    // A feed of this source, which rings the standby's bell, and its feeder on a thread of the scope.
+    pub(crate) fn start_feed<T: SegmentSource + Send + Drop + 's>(
+        &self,
+        source: T,
+    ) -> Option<Feeding<'s, T, R>>
+        ensures source { IfSome result (λ f. f.handle.promise.0.value ≡ source) }
+        ensures empty { IfSome result (λ f. got_by f.end ≡ []) }
+    {
+        let bell = self.bells.of_standby().ok()?;
+        let (feeder, end) = feed(self.rt, self.alloc, bell).ok()?;
+        let handle = self.start_feeder(source, feeder)?;
+        Some(Feeding { end, handle })
+    }
+
+    // The feeder on a thread of the scope.
+    fn start_feeder<T: SegmentSource + Send + Drop + 's>(
+        &self,
+        source: T,
+        feeder: Feeder,
+    ) -> Option<PromisedHandle<FeederExit<T>, FeederPromise<T>>>
+        ensures { IfSome result (λ h. (h.promise.0.value ≡ source) × (h.promise.1.value ≡ feeder)) }
+    {
+        let rt = self.rt;
+        let promise = FeederPromise(Snapshot::of(&source), Snapshot::of(&feeder));
+        let run = move || -> FeederExit<T>
+            ensures { HasRun T.gives T.failures source feeder result }
+        { run_thread(rt, source, feeder) };
+        self.scope.spawn_with(promise, run).ok()
+    }
 }
 
-// The same, on a thread that no scope waits for. Where memory is refused to the feed the source comes back; one whose thread
-// is refused is dropped.
-pub(crate) fn start_feed_alone<
-    'a,
-    T: SegmentSource + Send + Drop + 'static,
-    R: Threads + Wait + Copy + Send + Drop + 'static,
->(
-    rt: &'a R,
-    alloc: Global,
-    source: T,
-    bell: Arc<Bell, Global>,
-) -> Result<Feeding<'a, T, R>, Option<T>>
-    ensures source { IfOk result (λ f. f.handle.promise.0.value ≡ source) }
-    ensures empty { IfOk result (λ f. got_by f.end ≡ []) }
-    ensures back { IfErr result (λ back. IfSome back (λ s. s ≡ source)) }
-{
-    let Ok((feeder, end)) = feed(rt, alloc, bell) else {
-        return Err(Some(source));
-    };
-    let Some(handle) = start_feeder_alone(rt, source, feeder) else {
-        return Err(None);
-    };
-    Ok(Feeding { end, handle })
-}
+impl<'a, S: ReportSource, R: Threads + Wait + Copy + Send + Drop + 'static> ServiceCrew<'a, S, R> {
+    // The same, on a thread that no scope waits for. Where memory is refused to the feed the source comes back; one whose thread
+    // is refused is dropped.
+    pub(crate) fn start_feed<T: SegmentSource + Send + Drop + 'static>(
+        &self,
+        source: T,
+    ) -> Result<Feeding<'a, T, R>, Option<T>>
+        ensures source { IfOk result (λ f. f.handle.promise.0.value ≡ source) }
+        ensures empty { IfOk result (λ f. got_by f.end ≡ []) }
+        ensures back { IfErr result (λ back. IfSome back (λ s. s ≡ source)) }
+    {
+        let Ok(bell) = self.bells.of_standby() else {
+            return Err(Some(source));
+        };
+        let Ok((feeder, end)) = feed(self.rt, self.alloc, bell) else {
+            return Err(Some(source));
+        };
+        let Some(handle) = self.start_feeder(source, feeder) else {
+            return Err(None);
+        };
+        Ok(Feeding { end, handle })
+    }
 
-// The feeder on a thread of the scope.
-fn start_feeder<'s, E, T: SegmentSource + Send + Drop + 's, R: Wait + Sync>(
-    scope: &Scope<'s, E>,
-    rt: &'s R,
-    source: T,
-    feeder: Feeder,
-) -> Option<PromisedHandle<FeederExit<T>, FeederPromise<T>>>
-    ensures { IfSome result (λ h. (h.promise.0.value ≡ source) × (h.promise.1.value ≡ feeder)) }
-{
-    let promise = FeederPromise(Snapshot::of(&source), Snapshot::of(&feeder));
-    let run = move || -> FeederExit<T>
-        ensures { HasRun T.gives T.failures source feeder result }
-    { run_thread(rt, source, feeder) };
-    scope.spawn_with(promise, run).ok()
-}
-
-// The feeder on a thread of its own, which no scope waits for.
-fn start_feeder_alone<
-    T: SegmentSource + Send + Drop + 'static,
-    R: Threads + Wait + Copy + Send + Drop + 'static,
->(rt: &R, source: T, feeder: Feeder) -> Option<PromisedHandle<FeederExit<T>, FeederPromise<T>>>
-    ensures { IfSome result (λ h. (h.promise.0.value ≡ source) × (h.promise.1.value ≡ feeder)) }
-{
-    let promise = FeederPromise(Snapshot::of(&source), Snapshot::of(&feeder));
-    let own = *rt;
-    let run = move || -> FeederExit<T>
-        ensures { HasRun T.gives T.failures source feeder result }
-    { run_thread(&own, source, feeder) };
-    thread::spawn_with(rt, promise, run).ok()
+    // The feeder on a thread of its own, which no scope waits for.
+    fn start_feeder<T: SegmentSource + Send + Drop + 'static>(
+        &self,
+        source: T,
+        feeder: Feeder,
+    ) -> Option<PromisedHandle<FeederExit<T>, FeederPromise<T>>>
+        ensures { IfSome result (λ h. (h.promise.0.value ≡ source) × (h.promise.1.value ≡ feeder)) }
+    {
+        let own = *self.rt;
+        let promise = FeederPromise(Snapshot::of(&source), Snapshot::of(&feeder));
+        let run = move || -> FeederExit<T>
+            ensures { HasRun T.gives T.failures source feeder result }
+        { run_thread(&own, source, feeder) };
+        thread::spawn_with(self.rt, promise, run).ok()
+    }
 }
 
 // Receives one answer more, or the last one again. False says that none will come.

@@ -145,60 +145,6 @@ fn take_log<'a, R: Wait>(
     take_edits(standby, end, most)
 }
 
-// Each lane in turn: at most as many messages as a visit takes, and behind it at most as many steps of the log as came messages.
-// Its worker is woken in between. Answers whether a lane gave all that a visit takes.
-fn take_lanes<'a, R: Wait>(
-    standby: &mut Standby,
-    end: &mut FeedEnd<'a, R>,
-    request: Request,
-    bells: &Bells,
-) -> Result<bool, DriveFault>
-    requires { has_begun standby.old ≡ false }
-    ensures went { Went GivesWhatIsFed failures_of end.old standby.old end.new standby.new }
-    ensures visited { IfOk result (λ _. IsRound standby.old standby.new) }
-    ensures held { IfOk result (λ _. holds request ≡ true → KeepsNamespace standby.old standby.new) }
-    ensures until { IfErr result (λ fault. WentUntil GivesWhatIsFed failures_of end.old standby.old end.new fault) }
-{
-    let lanes = standby.lanes();
-    let mut is_left = false;
-    for i in 0..lanes {
-        let taken = take_messages(standby, end, (i + 1) as u16, MESSAGES_OF_A_VISIT)?;
-        if taken > 0 {
-            bells.wake(i);
-        }
-        take_log(standby, end, request, taken)?;
-        is_left |= taken == MESSAGES_OF_A_VISIT;
-    }
-    Ok(is_left)
-}
-
-// One rotation: a step of the log for each lane, at most, or so many where these are more; and then the lanes. Answers whether
-// a lane gave all that a visit takes.
-fn take_round<'a, R: Wait>(
-    standby: &mut Standby,
-    end: &mut FeedEnd<'a, R>,
-    request: Request,
-    bells: &Bells,
-    ahead: usize,
-) -> Result<bool, DriveFault>
-    requires { has_begun standby.old ≡ false }
-    ensures went { Went GivesWhatIsFed failures_of end.old standby.old end.new standby.new }
-    ensures visited { IfOk result (λ _. IsRound standby.old standby.new) }
-    ensures held { IfOk result (λ _. holds request ≡ true → KeepsNamespace standby.old standby.new) }
-    ensures until { IfErr result (λ fault. WentUntil GivesWhatIsFed failures_of end.old standby.old end.new fault) }
-{
-    let most = standby.lanes().max(ahead);
-    take_log(standby, end, request, most)?;
-    take_lanes(standby, end, request, bells)
-}
-
-// How many workers were not yet seen to have ended.
-fn still_running(started: usize, bells: &Bells) -> usize
-    ensures { result ≤ started }
-{
-    started.saturating_sub(bells.ended())
-}
-
 // Forgets the history, where that was requested.
 fn forget_requested(standby: &mut Standby, request: Request)
     ensures { standby.new ≡ left_by_request request standby.old }
@@ -209,63 +155,122 @@ fn forget_requested(standby: &mut Standby, request: Request)
     }
 }
 
-// Sleeps until something is brought, unless it has come since the last rotation: a report, something of a log that is not held,
-// or the end of a worker.
-fn rest<'a, R: Wait>(
-    rt: &R,
-    standby: &Standby,
-    end: &FeedEnd<'a, R>,
-    request: Request,
-    bells: &Bells,
-    running: usize,
-    started: usize,
-) {
-    let is_holding = is_holding(request);
-    bells.doze();
-    let has_log = !is_holding && is_at_hand(standby, end);
-    let has_ended = still_running(started, bells) != running;
-    bells.rest(rt, has_log || has_ended, is_holding);
+/// The rotations of a standby whose workers run.
+#[derive_where(Clone, Copy)]
+pub(crate) struct Rotation<'b, R> {
+    pub(crate) rt: &'b R,
+    pub(crate) bells: &'b Bells,
+    /// How many workers were started.
+    pub(crate) started: usize,
+    /// How many steps of the log each rotation begins with, at most, where the standby has fewer lanes.
+    pub(crate) ahead: usize,
 }
 
-/// Rotations, until the operator requests a promotion. It is asked before each one, and what it requests to be forgotten of the
-/// history is forgotten then.
-///
-/// A rotation begins with at most as many steps of the log as there are lanes, or `ahead` where that is more. Then it visits each
-/// lane, and takes from it until it is empty, or gave 64 messages; and after each lane it makes at most as many steps of the log
-/// as the lane gave messages. So a lane that is never empty keeps back neither the log nor another lane, and a log that is
-/// always ready keeps back no lane. The log is left alone while no transaction is in hand and nothing lies in its feed: a
-/// slow source keeps back no message; and so it is where the operator requested that it be held.
-///
-/// Once the operator was asked, and no more is known to be there, it sleeps: until a report, the log or the end of a worker wakes
-/// it, and for 10 milliseconds at most. So the operator sees at once what came. While the log is held it sleeps a tenth of a
-/// millisecond at most, for the operator has work of its own.
-pub(crate) fn rotate<'a, O: Operator, R: Wait>(
-    rt: &R,
-    standby: &mut Standby,
-    end: &mut FeedEnd<'a, R>,
-    operator: &mut O,
-    bells: &Bells,
-    started: usize,
-    ahead: usize,
-) -> Result<(), DriveFault>
-    requires { has_begun standby.old ≡ false }
-    ensures requested { IfOk result (λ _. Rotates GivesWhatIsFed failures_of end.old standby.old end.new standby.new (λ shown answers. RequestsAt O.asks started standby.old operator.old shown answers standby.new operator.new)) }
-    ensures gone { IfErr result (λ _. Rotates GivesWhatIsFed failures_of end.old standby.old end.new standby.new (λ shown answers. WasShown O.asks started standby.old operator.old shown answers standby.new operator.new)) }
-    ensures until { IfErr result (λ fault. WentUntil GivesWhatIsFed failures_of end.old standby.old end.new fault) }
-{
-    let mut is_left = true;
-    for _ in rt.forever() {
-        let running = still_running(started, bells);
-        let request = operator.ask(standby, running);
-        if let Request::Promote = request {
-            return Ok(());
-        }
-        forget_requested(standby, request);
-        if !is_left {
-            rest(rt, standby, end, request, bells, running, started);
-        }
-        bells.clear();
-        is_left = take_round(standby, end, request, bells, ahead)?;
+impl<'b, R> Rotation<'b, R> {
+    // How many workers were not yet seen to have ended.
+    fn still_running(&self) -> usize
+        ensures { result ≤ self.now.started }
+    {
+        self.started.saturating_sub(self.bells.ended())
     }
-    unreachable!()
+}
+
+impl<'b, R: Wait> Rotation<'b, R> {
+    // Each lane in turn: at most as many messages as a visit takes, and behind it at most as many steps of the log as came
+    // messages. Its worker is woken in between. Answers whether a lane gave all that a visit takes.
+    fn take_lanes<'a>(
+        &self,
+        standby: &mut Standby,
+        end: &mut FeedEnd<'a, R>,
+        request: Request,
+    ) -> Result<bool, DriveFault>
+        requires { has_begun standby.old ≡ false }
+        ensures went { Went GivesWhatIsFed failures_of end.old standby.old end.new standby.new }
+        ensures visited { IfOk result (λ _. IsRound standby.old standby.new) }
+        ensures held { IfOk result (λ _. holds request ≡ true → KeepsNamespace standby.old standby.new) }
+        ensures until { IfErr result (λ fault. WentUntil GivesWhatIsFed failures_of end.old standby.old end.new fault) }
+    {
+        let lanes = standby.lanes();
+        let mut is_left = false;
+        for i in 0..lanes {
+            let taken = take_messages(standby, end, (i + 1) as u16, MESSAGES_OF_A_VISIT)?;
+            if taken > 0 {
+                self.bells.wake(i);
+            }
+            take_log(standby, end, request, taken)?;
+            is_left |= taken == MESSAGES_OF_A_VISIT;
+        }
+        Ok(is_left)
+    }
+
+    // One rotation: a step of the log for each lane, at most, or so many where these are more; and then the lanes. Answers
+    // whether a lane gave all that a visit takes.
+    fn take_round<'a>(
+        &self,
+        standby: &mut Standby,
+        end: &mut FeedEnd<'a, R>,
+        request: Request,
+    ) -> Result<bool, DriveFault>
+        requires { has_begun standby.old ≡ false }
+        ensures went { Went GivesWhatIsFed failures_of end.old standby.old end.new standby.new }
+        ensures visited { IfOk result (λ _. IsRound standby.old standby.new) }
+        ensures held { IfOk result (λ _. holds request ≡ true → KeepsNamespace standby.old standby.new) }
+        ensures until { IfErr result (λ fault. WentUntil GivesWhatIsFed failures_of end.old standby.old end.new fault) }
+    {
+        let most = standby.lanes().max(self.ahead);
+        take_log(standby, end, request, most)?;
+        self.take_lanes(standby, end, request)
+    }
+
+    // Sleeps until something is brought, unless it has come since the last rotation: a report, something of a log that is not
+    // held, or the end of a worker.
+    fn rest<'a>(&self, standby: &Standby, end: &FeedEnd<'a, R>, request: Request, running: usize) {
+        let is_holding = is_holding(request);
+        self.bells.doze();
+        let has_log = !is_holding && is_at_hand(standby, end);
+        let has_ended = self.still_running() != running;
+        self.bells.rest(self.rt, has_log || has_ended, is_holding);
+    }
+
+    /// Rotations, until the operator requests a promotion. It is asked before each one, and what it requests to be forgotten of the
+    /// history is forgotten then.
+    ///
+    /// A rotation begins with at most as many steps of the log as there are lanes, or `ahead` where that is more. Then it visits each
+    /// lane, and takes from it until it is empty, or gave 64 messages; and after each lane it makes at most as many steps of the log
+    /// as the lane gave messages. So a lane that is never empty keeps back neither the log nor another lane, and a log that is
+    /// always ready keeps back no lane. The log is left alone while no transaction is in hand and nothing lies in its feed: a
+    /// slow source keeps back no message; and so it is where the operator requested that it be held.
+    ///
+    /// Once the operator was asked, and no more is known to be there, it sleeps: until a report, the log or the end of a worker wakes
+    /// it, and for 10 milliseconds at most. So the operator sees at once what came. While the log is held it sleeps a tenth of a
+    /// millisecond at most, for the operator has work of its own.
+    pub(crate) fn rotate<'a, O: Operator>(
+        &self,
+        standby: &mut Standby,
+        end: &mut FeedEnd<'a, R>,
+        operator: &mut O,
+    ) -> Result<(), DriveFault>
+        requires { has_begun standby.old ≡ false }
+        ensures requested { IfOk result (λ _. Rotates GivesWhatIsFed failures_of end.old standby.old end.new standby.new
+            (λ shown answers. RequestsAt O.asks self.now.started standby.old operator.old shown answers standby.new operator.new)) }
+        ensures gone { IfErr result (λ _. Rotates GivesWhatIsFed failures_of end.old standby.old end.new standby.new
+            (λ shown answers. WasShown O.asks self.now.started standby.old operator.old shown answers standby.new operator.new)) }
+        ensures until { IfErr result (λ fault. WentUntil GivesWhatIsFed failures_of end.old standby.old end.new fault) }
+    {
+        let mut is_left = true;
+        for _ in self.rt.forever() {
+            let running = self.still_running();
+            let request = operator.ask(standby, running);
+            if let Request::Promote = request {
+                return Ok(());
+            }
+            forget_requested(standby, request);
+            if !is_left {
+                self.rest(standby, end, request, running);
+            }
+            self.bells.clear();
+            is_left = self.take_round(standby, end, request)?;
+        }
+        unreachable!()
+    }
 }

@@ -5,7 +5,6 @@ pub mod Rows
 pub mod Kept
 pub mod Round
 pub mod ArrayLemmas
-pub mod LineLemmas
 pub mod LoadedLines
 pub mod Order
 pub mod Writing
@@ -21,3 +20,7 @@ pub mod ItemReads
 pub mod RowReads
 pub mod HeaderReads
 pub mod InParts
+pub mod FrontCuts
+pub mod Passing
+pub mod FrontImages
+pub mod AtOnce

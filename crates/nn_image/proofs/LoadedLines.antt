@@ -1,11 +1,6 @@
 -- Lines of known bytes as pieces of their text.
-use Rattle.std.proofs.Common.{◌≡◌, ℕ, ◌+◌, ◌-◌, List, [], ◌∷◌, ◌++◌, length, Bool, true, false, cond, not, ◌&&◌, eqb, Option, Some, None, Result, Ok, Err, inl, inr, refl, sym, ap, ◌∙◌, arith, append-nil, append_assoc, subst}
-use Rattle.std.specs.List.{AllByRecursion}
+use Rattle.std.proofs.Common.{◌≡◌, ℕ, ◌+◌, ◌-◌, ◌<◌, ◌≤◌, ◌^◌, List, [], ◌∷◌, ◌++◌, length, Bool, true, false, cond, eqb, Option, Some, None, Result, Ok, Err, inl, inr, refl, sym, ap, ◌∙◌, arith, append-nil, append_assoc, subst}
 use Rattle.std.specs.Io.KnownBytes.{Consumes, IsAtEnd}
-use Rattle.std.proofs.lemmas.List.Elements.{All-from_recursion}
-use Rattle.std.proofs.lemmas.List.Splits.{slice_split_at, slice_split_none}
-use Rattle.nn_image.specs.declared.lines.Line.{Line}
-use Rattle.nn_image.specs.Lines.{ahead, no_feed, line_bytes, IsNext}
 use Rattle.nn_image.specs.Reading.{of_header, pieces_of, object_of, all_from, rows_from, last_path, next_line_number, at_end_line, nothing_more, with_next_row, read_image, ◌then◌}
 use Rattle.std.proofs.lemmas.Bool.Decides.{Decides-eqb}
 use Rattle.std.specs.Prelude.{IsTrue, IfOk, IfErr}
@@ -17,60 +12,30 @@ use Rattle.nn_model.specs.Namespace.{Path, Issued, Namespace}
 use Rattle.nn_image.specs.declared.row_line.RowLine.{RowLine}
 use Rattle.nn_image.specs.declared.row_line.RowLine.TheVariants.{Row, End, Bad}
 use Rattle.nn_tree.specs.Restore.{bare}
-use Rattle.std.proofs.KnownBytes.{prepend_known-nil}
 use Rattle.nn_bytes.specs.Lines.{line_feed}
+use Rattle.nn_bytes.specs.Pieces.{is_unbroken, joined_lines}
+use Rattle.nn_bytes.proofs.PieceLemmas.{cut_first, joined_more, one_piece}
+use Rattle.nn_device.specs.Device.{Reader}
+use Rattle.nn_input.specs.Cut.{Came, HasCome, HasEnded, Lines, NextEnded, ReadOn, ahead, line_text}
+use Rattle.nn_input.specs.declared.lines.Place.{Place}
+use Rattle.nn_input.proofs.Cuts.{come_both, none_came, whole_line, whole_torn}
 use Rattle.nn_image.specs.declared.fault.ImageFault.{ImageFault}
 use Rattle.nn_image.specs.declared.fault.ImageFault.TheVariants.{NotHeader, BadLine, WrongOrder, CountMismatch, Truncated, BadVersion, ReadFault, OutOfMemory}
 use Rattle.nn_image.specs.Outcome.{ImageFails, IsOfDevice, IsNoRead, Noted}
-use Rattle.nn_image.specs.Loading.{LoadFails, GivesAtEnd, with_txid, Loading, at_header, in_rows, behind_end, refused, loaded_from, TakesLine, fault_of_loading, by_read, IsReadAs, IsBegun, rows_left, state_of, TakesRow, HasLoaded}
+use Rattle.nn_image.specs.Loading.{LoadFails, GivesAtEnd, with_txid, Loading, at_header, in_rows, behind_end, refused, loaded_from, TakesLine, fault_of_loading, by_read, IsReadAs, IsBegun, rows_left, state_of, TakesRow, IsLoadingOf, StopsAtLine, StopsSoon}
 use Rattle.nn_image.specs.Lawful.{HasPaths}
 use Rattle.nn_image.specs.declared.loading.Begun.{Begun}
 use Rattle.nn_image.specs.declared.loading.Stage.TheVariants as stage
 use Rattle.nn_image.proofs.PathsRead.{bare_paths}
 use Rattle.nn_image.proofs.Round.{some_piece}
 
-and_true : (a b : Bool) → (a && b) ≡ true → (a ≡ true) × (b ≡ true)
-and_true true b e = (refl, e)
-and_true false b e = absurd (cc)
-
-not_true : (b : Bool) → not b ≡ true → b ≡ false
-not_true true e = absurd (cc)
-not_true false e = refl
-
-plain_all : (bs : List ℕ) → no_feed bs ≡ true → AllByRecursion (λ b. eqb b line_feed ≡ false) bs
-plain_all [] e = tt
-plain_all (b ∷ bs) e = let both = and_true (not (eqb b line_feed)) (no_feed bs) e in (not_true (eqb b line_feed) both.0, plain_all bs both.1)
-
-pub piece : (line left : List ℕ) → no_feed line ≡ true → pieces_of (line ++ line_feed ∷ left) ≡ line ∷ pieces_of left
+pub piece : (line left : List ℕ) → is_unbroken line ≡ true → pieces_of (line ++ line_feed ∷ left) ≡ line ∷ pieces_of left
 unfolding pieces_of
-piece line left plain = slice_split_at (λ b. eqb b line_feed) line line_feed left (All-from_recursion _ _ (plain_all line plain)) refl
+piece line left whole = cut_first line left whole
 
-pub only_piece : (line : List ℕ) → no_feed line ≡ true → pieces_of line ≡ line ∷ []
+pub only_piece : (line : List ℕ) → is_unbroken line ≡ true → pieces_of line ≡ line ∷ []
 unfolding pieces_of
-only_piece line plain = slice_split_none (λ b. eqb b line_feed) line (All-from_recursion _ _ (plain_all line plain))
-
-known : (old new : Option (List ℕ)) (bytes text : List ℕ) → Consumes old new bytes → old ≡ Some text → (left : List ℕ) × (new ≡ Some left) × (text ≡ bytes ++ left)
-known None new bytes text h e = absurd (cc)
-known (Some xs) None bytes text h e = absurd h
-known (Some xs) (Some ys) bytes text h e = let same : xs ≡ text = cc in (ys, refl, sym same ∙ h)
-
-at_end_is : (new : Option (List ℕ)) (left : List ℕ) → IsAtEnd new → new ≡ Some left → left ≡ []
-at_end_is None left h e = absurd (cc)
-at_end_is (Some xs) left h e = let same : xs ≡ left = cc in sym same ∙ h
-
-pub next_piece : (old new : Option (List ℕ)) (l : Line) → IsNext old new l → l.whole ≡ true → (text : List ℕ) → old ≡ Some text
-    → (left : List ℕ) × (new ≡ Some left) × (pieces_of text ≡ l.text.items ∷ pieces_of left)
-next_piece old new l h whole text e =
-    let spelt : line_bytes l ≡ l.text.items ++ line_feed ∷ [] = ap (λ b. l.text.items ++ cond b (line_feed ∷ []) []) whole in
-    let k = known old new (line_bytes l) text h.bytes e in
-    (k.0, k.1, ap pieces_of (k.2 ∙ ap (λ bs. bs ++ k.0) spelt ∙ append_assoc l.text.items (line_feed ∷ []) k.0) ∙ piece l.text.items k.0 h.plain)
-
-pub last_piece : (old new : Option (List ℕ)) (l : Line) → IsNext old new l → l.whole ≡ false → (text : List ℕ) → old ≡ Some text → pieces_of text ≡ l.text.items ∷ []
-last_piece old new l h part text e =
-    let spelt : line_bytes l ≡ l.text.items = ap (λ b. l.text.items ++ cond b (line_feed ∷ []) []) part ∙ append-nil l.text.items in
-    let k = known old new (line_bytes l) text h.bytes e in
-    let none : k.0 ≡ [] = at_end_is new k.0 (h.last part) k.1 in
-    ap pieces_of (k.2 ∙ ap (λ left. line_bytes l ++ left) none ∙ append-nil (line_bytes l) ∙ spelt) ∙ only_piece l.text.items h.plain
+only_piece line whole = one_piece line whole
 
 -- ---- faults
 
@@ -226,37 +191,45 @@ whole_end b torn ended none = sym (begun_is b (torn ∷ []) ∙ ap (with_txid b.
 
 -- ---- a reader's lines
 
-pub none_loaded : (window : List ℕ) (left : Option (List ℕ)) → window ≡ [] → HasLoaded left (ahead window left) at_header
-unfolding read_image
-none_loaded window left none text known = (text, ap (λ w. ahead w left) none ∙ prepend_known-nil left ∙ known, refl)
+abbrev pub whole : ℕ
+whole = 2 ^ 64 - 1
 
-pub one_more_line : (old mid new : Option (List ℕ)) (l m : Loading) (line : Line) → HasLoaded old mid l → IsNext mid new line → line.whole ≡ true → TakesLine l m line.text.items → HasLoaded old new m
-one_more_line old mid new l m line so_far next whole takes text known =
-    let k = so_far text known in
-    let j = next_piece mid new line next whole k.0 k.1 in
-    (j.0, j.1, k.2 ∙ ap (loaded_from l) j.2 ∙ turn (pieces_of j.0) (some_piece j.0))
+-- these bytes were read, and this is what their lines have come to, without a fault
+pub record HasLoaded (before now : Reader) (lines : Lines) (l : Loading) : Type 0 where
+  pub bytes : List ℕ
+  pub came : Came before now bytes
+  pub ended : List (List ℕ)
+  pub come : HasCome whole bytes ended lines
+  pub loads : IsLoadingOf ended l
+  pub sound : fault_of_loading l ≡ None
+
+pub none_loaded : (r : Reader) (lines : Lines) → ((most : ℕ) → HasCome most [] [] lines) → HasLoaded r r lines at_header
+unfolding read_image
+none_loaded r lines none = record {
+  bytes = [];
+  came = none_came r;
+  ended = [];
+  come = none whole;
+  loads = λ more. refl;
+  sound = refl;
+}
+
+-- bytes that are counted are fewer than a line may have
+counted_within : (before now : Reader) (bytes : List ℕ) → now.given < 2 ^ 62 + 2 ^ 63 → Came before now bytes → length bytes ≤ whole
+counted_within before now bytes bounded came = omega (arith, bounded, came.counted)
+
+-- a line more was taken
+one_more : (ended : List (List ℕ)) (line : List ℕ) (l m : Loading) → is_unbroken line ≡ true → TakesLine l m line → IsLoadingOf ended l → IsLoadingOf (ended ++ line ∷ []) m
+one_more ended line l m whole takes loads more =
+    ap read_image
+    (ap (λ t. t ++ more) (joined_more ended line)
+    ∙ append_assoc (joined_lines ended) (line ++ line_feed ∷ []) more
+    ∙ ap (λ t. joined_lines ended ++ t) (append_assoc line (line_feed ∷ []) more))
+    ∙ loads (line ++ line_feed ∷ more) ∙ ap (loaded_from l) (piece line more whole) ∙ turn (pieces_of more) (some_piece more)
   where
-    turn : (pieces : List (List ℕ)) → (pieces ≡ [] → ⊥) → loaded_from l (line.text.items ∷ pieces) ≡ loaded_from m pieces
+    turn : (pieces : List (List ℕ)) → (pieces ≡ [] → ⊥) → loaded_from l (line ∷ pieces) ≡ loaded_from m pieces
     turn [] some = absurd (some refl)
     turn (next ∷ pieces) some = takes next pieces
-
-at_end_behind : (window : List ℕ) (left : Option (List ℕ)) → IsAtEnd (ahead window left) → IsAtEnd left
-at_end_behind window None h = tt
-at_end_behind [] (Some xs) h = h
-at_end_behind (b ∷ window) (Some xs) h = absurd (cc)
-
-module _ (old mid : Option (List ℕ)) (l : Loading) (so_far : HasLoaded old mid l) where
-  torn_read : (new : Option (List ℕ)) (line : Line) → IsNext mid new line → line.whole ≡ false → (text : List ℕ) → old ≡ Some text → read_image text ≡ loaded_from l (line.text.items ∷ [])
-  torn_read new line next torn text known = let k = so_far text known in k.2 ∙ ap (loaded_from l) (last_piece mid new line next torn k.0 k.1)
-
-  module _ (window : List ℕ) (left : Option (List ℕ)) (line : Line) (next : IsNext mid (ahead window left) line) (torn : line.whole ≡ false) where
-    pub all_loaded : (r : Result (Namespace × ℕ) ImageFault) → r ≡ loaded_from l (line.text.items ∷ []) → IfOk r (λ i. GivesAtEnd old left read_image i)
-    all_loaded (Ok i) is = λ text there. (torn_read (ahead window left) line next torn text there ∙ sym is, at_end_behind window left (next.last torn))
-    all_loaded (Err e) is = tt
-
-    pub none_loads : (r : Result (Namespace × ℕ) ImageFault) → r ≡ loaded_from l (line.text.items ∷ []) → IfErr r (λ e. LoadFails old e read_image)
-    none_loads (Ok i) is = tt
-    none_loads (Err e) is = λ text there. fails_so e (read_image text) (torn_read (ahead window left) line next torn text there ∙ sym is)
 
 refused_is : (l : Loading) (e : ImageFault) (pieces : List (List ℕ)) → fault_of_loading l ≡ Some e → loaded_from l pieces ≡ Err e
 refused_is at_header e pieces is = absurd (cc)
@@ -264,5 +237,106 @@ refused_is (in_rows n txid) e pieces is = absurd (cc)
 refused_is (behind_end n txid) e pieces is = absurd (cc)
 refused_is (refused f) e pieces is = let same : f ≡ e = cc in ap Err same
 
-pub line_stops : (old new : Option (List ℕ)) (l : Loading) (e : ImageFault) → HasLoaded old new l → fault_of_loading l ≡ Some e → LoadFails old e read_image
-line_stops old new l e so_far is text there = let k = so_far text there in fails_so e (read_image text) (k.2 ∙ refused_is l e (pieces_of k.0) is)
+-- at the end there is no other fault
+torn_fault : (l : Loading) (torn : List ℕ) (e : ImageFault) → fault_of_loading l ≡ None → loaded_from l (torn ∷ []) ≡ Err e → e ≡ Truncated
+unfolding all_from rows_from
+torn_fault at_header torn e sound is = cc
+torn_fault (in_rows n txid) torn e sound is = cc
+torn_fault (behind_end n txid) [] e sound is = absurd (cc)
+torn_fault (behind_end n txid) (b ∷ torn) e sound is = cc
+torn_fault (refused f) torn e sound is = absurd (cc)
+
+-- the bytes that were taken, and those that are left
+known : (old new : Option (List ℕ)) (bytes text : List ℕ) → Consumes old new bytes → old ≡ Some text → (left : List ℕ) × (new ≡ Some left) × (text ≡ bytes ++ left)
+known None new bytes text h e = absurd (cc)
+known (Some xs) None bytes text h e = absurd h
+known (Some xs) (Some ys) bytes text h e = let same : xs ≡ text = cc in (ys, refl, sym same ∙ h)
+
+at_end_is : (new : Option (List ℕ)) (left : List ℕ) → IsAtEnd new → new ≡ Some left → left ≡ []
+at_end_is None left h e = absurd (cc)
+at_end_is (Some xs) left h e = let same : xs ≡ left = cc in sym same ∙ h
+
+-- the next line of a reader ends
+module _ (before now after : Reader) (lines lines' : Lines) (p : Place) (l m : Loading) (text : List ℕ) (bounded : after.given < 2 ^ 62 + 2 ^ 63)
+    (so_far : HasLoaded before now lines l) (next : NextEnded whole now after lines lines' p) (is : text ≡ line_text lines' p) (takes : TakesLine l m text) where
+  abbrev read : List ℕ
+  read = so_far.bytes ++ next.bytes
+
+  abbrev came : Came before after read
+  came = come_both before now after so_far.bytes next.bytes so_far.came next.came
+
+  abbrev ended : HasEnded whole read so_far.ended p lines'
+  ended = next.ended so_far.bytes so_far.ended so_far.come
+
+  text_is : text ≡ ended.line
+  text_is = is ∙ whole_line whole read so_far.ended p lines' ended (counted_within before after read bounded came)
+
+  loads : IsLoadingOf (so_far.ended ++ ended.line ∷ []) m
+  loads = one_more so_far.ended ended.line l m ended.unbroken (subst (TakesLine l m) text_is takes) so_far.loads
+
+  pub line_loaded : fault_of_loading m ≡ None → HasLoaded before after lines' m
+  line_loaded sound = record { bytes = read; came = came; ended = so_far.ended ++ ended.line ∷ []; come = ended.come; loads = loads; sound = sound }
+
+  line_refuses : (e : ImageFault) → fault_of_loading m ≡ Some e → (more : List ℕ) → read_image (joined_lines (so_far.ended ++ ended.line ∷ []) ++ more) ≡ Err e
+  line_refuses e bad more = loads more ∙ refused_is m e (pieces_of more) bad
+
+  abbrev behind : List ℕ
+  behind = ended.come.torn ++ ahead lines'
+
+  pub line_stops : (e : ImageFault) → fault_of_loading m ≡ Some e → LoadFails before.left e read_image
+  line_stops e bad text there =
+      let k = known before.left after.left read text came.got there in
+      fails_so e (read_image text) (ap read_image (k.2 ∙ ap (λ t. t ++ k.0) ended.come.joined ∙ append_assoc (joined_lines (so_far.ended ++ ended.line ∷ [])) behind k.0) ∙ line_refuses e bad (behind ++ k.0))
+
+  pub stops_there : (e : ImageFault) → fault_of_loading m ≡ Some e → length (ahead lines') ≤ 2 ^ 16 → StopsAtLine before after e
+  stops_there e bad few = record {
+    earlier = so_far.ended;
+    line = ended.line;
+    behind = behind;
+    loading = l;
+    came = subst (Came before after) ended.come.joined came;
+    few = omega (arith, few, ap length (ap (λ t. t ++ ahead lines') ended.begins));
+    unbroken = ended.unbroken;
+    loads = so_far.loads;
+    sound = so_far.sound;
+    refused = line_refuses e bad;
+  }
+
+-- the bytes end
+module _ (before now after : Reader) (lines lines' : Lines) (l : Loading) (torn : List ℕ) (bounded : after.given < 2 ^ 62 + 2 ^ 63)
+    (so_far : HasLoaded before now lines l) (on : ReadOn whole now after lines lines') (end : IsAtEnd after.left) (none : ahead lines' ≡ []) (is : torn ≡ lines'.torn.kept) where
+  abbrev all_read : List ℕ
+  all_read = so_far.bytes ++ on.bytes
+
+  abbrev all_came : Came before after all_read
+  all_came = come_both before now after so_far.bytes on.bytes so_far.came on.came
+
+  abbrev all_come : HasCome whole all_read so_far.ended lines'
+  all_come = on.goes_on so_far.bytes so_far.ended so_far.come
+
+  torn_is : torn ≡ all_come.torn
+  torn_is = is ∙ whole_torn whole all_read so_far.ended lines' all_come (counted_within before after all_read bounded all_came)
+
+  torn_read : (text : List ℕ) → before.left ≡ Some text → read_image text ≡ loaded_from l (torn ∷ [])
+  torn_read text there =
+      let k = known before.left after.left all_read text all_came.got there in
+      ap read_image
+      (k.2 ∙ ap (λ left. all_read ++ left) (at_end_is after.left k.0 end k.1) ∙ append-nil all_read ∙ all_come.joined
+      ∙ ap (λ a. joined_lines so_far.ended ++ (all_come.torn ++ a)) none
+      ∙ ap (λ t. joined_lines so_far.ended ++ t) (append-nil all_come.torn))
+      ∙ so_far.loads all_come.torn ∙ ap (loaded_from l) (only_piece all_come.torn all_come.unbroken ∙ ap (λ t. t ∷ []) (sym torn_is))
+
+  pub all_loaded : (r : Result (Namespace × ℕ) ImageFault) → r ≡ loaded_from l (torn ∷ []) → IfOk r (λ i. GivesAtEnd before.left after.left read_image i)
+  all_loaded (Ok i) is = λ text there. (torn_read text there ∙ sym is, end)
+  all_loaded (Err e) is = tt
+
+  pub none_loads : (r : Result (Namespace × ℕ) ImageFault) → r ≡ loaded_from l (torn ∷ []) → IfErr r (λ e. LoadFails before.left e read_image)
+  none_loads (Ok i) is = tt
+  none_loads (Err e) is = λ text there. fails_so e (read_image text) (torn_read text there ∙ sym is)
+
+  pub ends_soon : (r : Result (Namespace × ℕ) ImageFault) → r ≡ loaded_from l (torn ∷ []) → IfErr r (StopsSoon before after)
+  ends_soon (Ok i) is = tt
+  ends_soon (Err e) is = inr (inl (torn_fault l torn e so_far.sound (sym is), end))
+
+  pub end_unfailed : after.failed ≡ before.failed
+  end_unfailed = all_came.unfailed

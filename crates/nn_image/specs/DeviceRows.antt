@@ -1,11 +1,14 @@
 -- What is told of a text of which a prefix was written, and of reads that failed.
-use Rattle.std.specs.Prelude.{ℕ, true, false, [], ◌∷◌, length, Some, Ok, Err, codes, refl}
+use Rattle.std.specs.Prelude.{◌≡◌, ℕ, true, false, [], ◌∷◌, ◌++◌, length, Some, Ok, Err, codes, refl}
 use Rattle.std.proofs.Common.{sym, ap, inl, inr, true≢false, arith, length-append}
-use Rattle.nn_device.specs.Device.{Writer}
-use Rattle.nn_image.specs.declared.fault.ImageFault.TheVariants.{Truncated, BadLine, ReadFault, OutOfMemory}
+use Rattle.nn_bytes.specs.Lines.{line_feed}
+use Rattle.nn_bytes.specs.Pieces.{joined_lines}
+use Rattle.nn_bytes.proofs.PieceLemmas.{joined_more}
+use Rattle.nn_device.specs.Device.{Reader, Writer}
+use Rattle.nn_image.specs.declared.fault.ImageFault.TheVariants.{NotHeader, Truncated, BadLine, ReadFault, OutOfMemory}
 use Rattle.nn_image.specs.declared.fault.SaveFault.TheVariants as save
-use Rattle.nn_image.specs.Lines.{Takes}
 use Rattle.nn_image.specs.Outcome.{ImageFails, IsOfDevice, Noted, IsNoRead}
+use Rattle.nn_image.specs.Loading.{StopsAtLine}
 use Rattle.nn_image.specs.Saving.{WrotePrefix}
 
 -- ---- writes
@@ -86,12 +89,19 @@ not_of_the_device : IsOfDevice Truncated → ⊥
 not_of_the_device (inl e) = cc
 not_of_the_device (inr e) = cc
 
--- a line of one byte was taken: it was in the window, or came of a read
-from_the_window : Takes 1 (10 ∷ []) 5 [] 5
-from_the_window = omega arith
+-- of a reader that fails no line was read, so a line has no fault
+nothing_read : (before after : Reader) → after.given ≡ before.given → StopsAtLine before after NotHeader → ⊥
+nothing_read before after none h =
+    omega (
+      arith,
+      none,
+      h.came.counted,
+      length-append (joined_lines (h.earlier ++ h.line ∷ [])) h.behind,
+      ap length (joined_more h.earlier h.line),
+      length-append (joined_lines h.earlier) (h.line ++ line_feed ∷ []),
+      length-append h.line (line_feed ∷ []),
+    )
 
-from_a_read : Takes 1 [] 5 (97 ∷ []) 7
-from_a_read = omega arith
-
-none_taken : Takes 1 [] 5 (97 ∷ []) 6 → ⊥
-none_taken h = omega (arith, h)
+-- one byte too many was read
+too_far : (before after : Reader) (h : StopsAtLine before after NotHeader) → length h.behind ≡ 65537 → ⊥
+too_far before after h is = omega (arith, is, h.few)

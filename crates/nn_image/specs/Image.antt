@@ -1,19 +1,15 @@
 -- Which text is the image of a namespace and a txid: a header, a line for each row of a well formed namespace in path order but
 -- the root's, and the end line.
 use Rattle.std.specs.Prelude.{◌≡◌, ℕ, List, [], ◌∷◌, ◌++◌, length, drop, true, Some, None, Ok, codes}
-use Rattle.std.specs.List.{flat_map, list_all}
+use Rattle.std.specs.List.{list_all}
 use Rattle.serde_json.specs.Data.{Data}
 use Rattle.serde_json.specs.Find.{get}
-use Rattle.nn_bytes.specs.Lines.{line_feed}
+use Rattle.nn_bytes.specs.Pieces.{is_unbroken, joined_lines}
 use Rattle.nn_model.specs.declared.form.Form.{Form}
 use Rattle.nn_model.specs.Namespace.{Path, Namespace}
 use Rattle.nn_model.specs.WellFormed.{IsWellFormed}
 use Rattle.nn_tree.specs.Restore.{bare}
-use Rattle.nn_image.specs.Lines.{no_feed}
 use Rattle.nn_image.specs.Reading.{object_of, of_header, row_of_line, whole_value}
-
-abbrev pub with_feed : List ℕ → List ℕ
-with_feed line = line ++ line_feed ∷ []
 
 -- the line is a header with the numbers of the namespace, and the txid
 abbrev pub IsHeader : List ℕ → Namespace → ℕ → Type 0
@@ -45,8 +41,8 @@ pub record IsImage (text : List ℕ) (n : Namespace) (txid : ℕ) : Type 0 where
   pub head : List ℕ
   pub lines : List (List ℕ)
   pub last : List ℕ
-  pub spelled : text ≡ flat_map with_feed (head ∷ (lines ++ last ∷ []))
-  pub plain : list_all no_feed (head ∷ (lines ++ last ∷ [])) ≡ true
+  pub spelled : text ≡ joined_lines (head ∷ (lines ++ last ∷ []))
+  pub plain : list_all is_unbroken (head ∷ (lines ++ last ∷ [])) ≡ true
   pub header : IsHeader head n txid
   pub rows : AreRows lines (drop 1 n.rows)
   pub counted : IsEndLine last (length lines)

@@ -5,7 +5,6 @@ pub mod Reading
 pub mod Outcome
 pub mod Lawful
 pub mod Header
-pub mod Lines
 pub mod Image
 pub mod Loading
 pub mod Saving
@@ -19,3 +18,6 @@ pub mod RowParts
 pub mod HeaderParts
 pub mod InParts
 pub mod InPartsRows
+pub mod Front
+pub mod FrontReading
+pub mod FrontRows

@@ -1,17 +1,20 @@
 -- What the calls that read an image say of its lines, and of the bytes to come, where those are known.
-use Rattle.std.specs.Prelude.{◌≡◌, ◌<◌, ◌≤◌, ◌+◌, ◌^◌, ℕ, List, true, IsTrue, IfSome, Option, Some, None, Result, Ok, Err, ◌∷◌, if◌then◌else◌, Bool, false, not, ◌&&◌}
+use Rattle.std.specs.Prelude.{◌≡◌, ◌⊎◌, ◌<◌, ◌≤◌, ◌+◌, ◌^◌, ℕ, List, length, true, IsTrue, IfSome, Option, Some, None, Result, Ok, Err, [], ◌∷◌, ◌++◌, if◌then◌else◌, Bool, false, not, ◌&&◌}
 use Rattle.std.specs.Io.KnownBytes.{IsAtEnd}
 use Rattle.std.specs.FinMap.Entries.{is_sorted}
+use Rattle.nn_bytes.specs.Pieces.{is_unbroken, joined_lines}
+use Rattle.nn_device.specs.Device.{Reader}
+use Rattle.nn_input.specs.Cut.{Came}
 use Rattle.nn_model.specs.Namespace.{Path, path_cmp, Namespace}
 use Rattle.nn_image.specs.declared.fault.ImageFault.{ImageFault}
-use Rattle.nn_image.specs.declared.fault.ImageFault.TheVariants.{BadLine}
+use Rattle.nn_image.specs.declared.fault.ImageFault.TheVariants.{BadLine, Truncated}
 use Rattle.nn_image.specs.declared.loading.Begun.{Begun}
 use Rattle.nn_image.specs.declared.loading.Stage.{Stage}
 use Rattle.nn_image.specs.declared.loading.Stage.TheVariants as stage
 use Rattle.nn_image.specs.declared.row_line.RowLine.{RowLine}
 use Rattle.nn_image.specs.declared.row_line.RowLine.TheVariants.{Row, End, Bad}
 use Rattle.nn_image.specs.Lawful.{HasPaths}
-use Rattle.nn_image.specs.Outcome.{ImageFails, IsNoRead}
+use Rattle.nn_image.specs.Outcome.{ImageFails, IsNoRead, IsOfDevice}
 use Rattle.nn_image.specs.Reading.{last_path, next_line_number, with_next_row, by_value, rows_from, at_end_line, nothing_more, pieces_of, all_from, read_image, ◌then◌, object_of, is_end_line}
 
 -- the known bytes make the definition fail in this way, unless a read failed or memory ran out
@@ -45,6 +48,10 @@ loaded_from (in_rows n txid) pieces = with_txid txid (rows_from n pieces)
 loaded_from (behind_end n txid) pieces = with_txid txid (nothing_more n pieces)
 loaded_from (refused e) pieces = Err e
 
+-- so much have these lines come to: with more behind them the text gives what that makes of its pieces
+abbrev pub IsLoadingOf : List (List ℕ) → Loading → Type 0
+IsLoadingOf lines l = (more : List ℕ) → read_image (joined_lines lines ++ more) ≡ loaded_from l (pieces_of more)
+
 -- the line came
 abbrev pub TakesLine : Loading → Loading → List ℕ → Type 0
 TakesLine old new line = (next : List ℕ) (pieces : List (List ℕ)) → loaded_from old (line ∷ next ∷ pieces) ≡ loaded_from new (next ∷ pieces)
@@ -64,6 +71,23 @@ fault_of_loading at_header = None
 fault_of_loading (in_rows n txid) = None
 fault_of_loading (behind_end n txid) = None
 fault_of_loading (refused e) = Some e
+
+-- a line has the fault, whatever follows, and those before it have none. Behind it so many bytes were read
+pub record StopsAtLine (before after : Reader) (e : ImageFault) : Type 0 where
+  pub earlier : List (List ℕ)
+  pub line : List ℕ
+  pub behind : List ℕ
+  pub loading : Loading
+  pub came : Came before after (joined_lines (earlier ++ line ∷ []) ++ behind)
+  pub few : length behind ≤ 65536
+  pub unbroken : is_unbroken line ≡ true
+  pub loads : IsLoadingOf earlier loading
+  pub sound : fault_of_loading loading ≡ None
+  pub refused : (more : List ℕ) → read_image (joined_lines (earlier ++ line ∷ []) ++ more) ≡ Err e
+
+-- it is told there, or at the end of the text
+abbrev pub StopsSoon : Reader → Reader → ImageFault → Type 0
+StopsSoon before after e = IsOfDevice e ⊎ (((e ≡ Truncated) × IsAtEnd after.left) ⊎ StopsAtLine before after e)
 
 -- ---- For private clauses.
 
@@ -118,7 +142,3 @@ IsLawfulStage (stage.Refused e) = IsNoRead e
 abbrev pub TakesRow : Begun → Begun → RowLine → Option ImageFault → Type 0
 TakesRow old new read None = (line next : List ℕ) (pieces : List (List ℕ)) → IsReadAs line read → rows_left old (line ∷ next ∷ pieces) ≡ rows_left new (next ∷ pieces)
 TakesRow old new read (Some e) = (line next : List ℕ) (pieces : List (List ℕ)) → IsReadAs line read → rows_left old (line ∷ next ∷ pieces) ≡ Err e
-
--- of the bytes to come so many were taken, and this is what their lines make of an image
-abbrev pub HasLoaded : Option (List ℕ) → Option (List ℕ) → Loading → Type 0
-HasLoaded old new l = (text : List ℕ) → old ≡ Some text → (left : List ℕ) × (new ≡ Some left) × (read_image text ≡ loaded_from l (pieces_of left))

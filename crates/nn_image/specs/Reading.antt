@@ -3,11 +3,10 @@ use Rattle.std.specs.Prelude.{ℕ, ◌+◌, ◌-◌, ◌^◌, List, [], ◌∷�
 use Rattle.std.specs.Option.{ok_or}
 use Rattle.std.specs.Ordering.{is_lt}
 use Rattle.std.specs.Str.{bytes_eq, is_utf8}
-use Rattle.std.specs.List.{slice_split}
 use Rattle.serde_json.specs.Data.{Data, Items, no_items, item}
 use Rattle.serde_json.specs.Find.{get, as_number, as_u64, as_str, as_bool, as_array, as_object}
 use Rattle.serde_json.specs.Read.{read}
-use Rattle.nn_bytes.specs.Lines.{line_feed}
+use Rattle.nn_bytes.specs.Pieces.{pieces}
 use Rattle.nn_types.specs.Profile.{profile_of}
 use Rattle.nn_types.specs.declared.profile.Profile.{Profile}
 use Rattle.nn_types.specs.declared.profile.Profile.TheVariants.{One}
@@ -200,7 +199,7 @@ rows_from n (torn ∷ []) = Err Truncated
 rows_from n (line ∷ next ∷ pieces) = by_value n (next ∷ pieces) (λ m. rows_from m (next ∷ pieces)) (object_of line)
 
 unfoldable pub pieces_of : List ℕ → List (List ℕ)
-pieces_of text = slice_split (λ b. b == line_feed) text
+pieces_of text = pieces text
 
 unfoldable pub all_from : List (List ℕ) → Result (Namespace × ℕ) ImageFault
 all_from [] = Err Truncated

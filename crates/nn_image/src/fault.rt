@@ -2,6 +2,7 @@
 ghost use Rattle.std.specs.Prelude.{◌≡◌};
 ghost use Rattle.nn_image.specs.Fault.{number_of, save_number_of, rewrite_number_of};
 
+use nn_input::LinesFault;
 use nn_types::fault;
 use std::alloc::{AllocError, AllocFailed};
 use thiserror::Error;
@@ -62,6 +63,19 @@ impl<T: Drop> From<AllocFailed<T>> for ImageFault {
 
     fn from(_e: AllocFailed<T>) -> ImageFault {
         ImageFault::OutOfMemory
+    }
+}
+
+impl From<LinesFault> for ImageFault {
+    ghost use Rattle.nn_image.specs.Outcome.{as_image_fault};
+
+    ghost from_gives = { λ fault e. e ≡ as_image_fault fault };
+
+    fn from(fault: LinesFault) -> ImageFault {
+        match fault {
+            LinesFault::ReadFailed => ImageFault::ReadFault,
+            LinesFault::OutOfMemory => ImageFault::OutOfMemory,
+        }
     }
 }
 

@@ -3,9 +3,9 @@
 
 mod arrays;
 mod fault;
+mod front;
 mod header;
 mod law;
-mod lines;
 mod loading;
 mod restoring;
 mod rewriting;
@@ -16,6 +16,7 @@ mod saving;
 mod values;
 
 pub use fault::{ImageFault, RewriteFault, SaveFault};
+pub use front::{FrontImage, load_at_once, load_front};
 pub use law::{reading_is_the_image, reads_back, reads_old_back};
 pub use loading::Loading;
 pub use restoring::load;

@@ -11,7 +11,9 @@ use Rattle.nn_model.specs.Counts.{SafeMode, closed_blocks_of, is_live, live_coun
 use Rattle.nn_model.specs.Namespace.{Namespace, Path}
 use Rattle.nn_model.specs.declared.form.Form.{Form}
 use Rattle.nn_listing.specs.Listing.{path_json}
+use Rattle.nn_listing.specs.Kept.{kept_lines, kept_after}
 use Rattle.nn_listing.specs.Safety.{unsafe_in, unsafe_of}
+use Rattle.nn_listing.specs.declared.safety.Kept.{Kept}
 use Rattle.nn_replicas.specs.Agreement.{Shows}
 use Rattle.nn_replicas.specs.Calls.{entry_or_none, replica_at, replicas_at}
 use Rattle.nn_replicas.specs.Entry.{live_cells, replicas_in}
@@ -188,15 +190,14 @@ above_zero (suc n) isnt = omega arith
 
 -- ---- The first of what is left.
 
-pub first_put : (text : List ℕ) (left : ℕ) (some more lines : List (List ℕ)) (left' : ℕ) (p q r : Page) (w x y : Writer) → lines ≡ some ++ more → left' ≡ left - length some
-    → PutsAllBut text (joined (take left lines)) p w q x → PutsPiece (joined (take left some)) q x r y → PutsAllBut text (joined (take left' more)) p w r y
-first_put text left some more lines left' p q r w x y are fewer all put =
-    one_more text (joined (take left some)) (joined (take left' more)) p q r w x y
-    (subst (λ t. PutsAllBut text t p w q x) (ap (λ l. joined (take left l)) are ∙ joined_both left some more ∙ ap (λ k. joined (take left some) ++ joined (take k more)) (sym fewer)) all) put
+module _ (k : Kept) (some more lines : List (List ℕ)) (are : lines ≡ some ++ more) where
+  pub first_put : (text : List ℕ) (p q r : Page) (w x y : Writer) → PutsAllBut text (kept_lines k lines) p w q x → PutsPiece (kept_lines k some) q x r y
+      → PutsAllBut text (kept_lines (kept_after k some) more) p w r y
+  first_put text p q r w x y all put = one_more text (kept_lines k some) (kept_lines (kept_after k some) more) p q r w x y
+      (subst (λ t. PutsAllBut text t p w q x) (ap (kept_lines k) are ∙ joined_both k.most some more) all) put
 
-pub fewer_left : (left left' all : ℕ) (some more lines : List (List ℕ)) → lines ≡ some ++ more → left' ≡ left - length some → left - length lines ≡ all → left' - length more ≡ all
-fewer_left left left' all some more lines are fewer is =
-    ap (λ k. k - length more) fewer ∙ left_both left (length some) (length more) ∙ ap (λ k. left - k) (sym (ap length are ∙ length-append some more)) ∙ is
+  pub fewer_left : kept_after (kept_after k some) more ≡ kept_after k lines
+  fewer_left = ap (λ m. record k { most = m }) (left_both k.most (length some) (length more) ∙ ap (λ n. k.most - n) (sym (ap length are ∙ length-append some more)))
 
 -- ---- What `unsafe` is answered.
 

@@ -5,6 +5,7 @@ pub mod TablesRows
 pub mod Trail
 pub mod TrailRows
 pub mod Safety
+pub mod Kept
 pub mod SafetyRows
 pub mod Summary
 pub mod Counted

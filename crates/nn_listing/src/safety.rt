@@ -10,7 +10,8 @@ ghost use Rattle.nn_tree.specs.Found.{form_of};
 ghost use Rattle.nn_tree.specs.Listing.{lent_names};
 ghost use Rattle.nn_tree.specs.Rows.{extent_of, greatest_depth};
 ghost use Rattle.nn_listing.specs.Listing.{path_json};
-ghost use Rattle.nn_listing.specs.Safety.{unsafe_in, unsafe_of, unsafe_text};
+ghost use Rattle.nn_listing.specs.Kept.{unsafe_by, kept_lines, kept_after};
+ghost use Rattle.nn_listing.specs.Safety.{unsafe_in, unsafe_text};
 
 use crate::fields::put_field;
 use nn_device::{Page, Writer};
@@ -91,95 +92,88 @@ pub fn put_unsafe_rows<W: Write>(
     requires shows { (n : Namespace) × Shows n table.now }
     ensures { PutsPiece (flat_map (λ l. l) (take most (unsafe_in min (replica_at table.now) rows.entry.left))) page.old writer.old page.new writer.new }
 {
-    let mut left = most;
-    'rows: while left > 0 {
+    let mut kept = Kept { table, min, most };
+    'rows: while kept.most > 0 {
         let Ok(next) = rows.next_row() else {
             unreachable!();
         };
         let Some(found) = next else {
             return;
         };
-        left = put_unsafe_row(page, writer, rows.names(), found, table, min, left);
+        kept.put_row(page, writer, rows.names(), found);
     }
 }
 
-// The same of one row. How many lines may still come.
-fn put_unsafe_row<W: Write>(
-    page: &mut Page,
-    writer: &mut Writer<W>,
-    names: &[&str],
-    found: Found<'_>,
-    table: &Replicas,
+// What keeps safe mode on: blocks with fewer than `min` live replicas in the table. So many of their lines may still come.
+#[derive(Drop)]
+struct Kept<'a> {
+    table: &'a Replicas,
     min: u16,
     most: u64,
-) -> u64
-    requires shows { (n : Namespace) × Shows n table.now }
-    ensures put { PutsPiece (flat_map (λ l. l) (take most (flat_map (unsafe_of min (replica_at table.now) (lent_names names.now)) (closed_blocks_of (form_of found.entry))))) page.old writer.old page.new writer.new }
-    ensures left { result ≡ most - length (flat_map (unsafe_of min (replica_at table.now) (lent_names names.now)) (closed_blocks_of (form_of found.entry))) }
-{
-    let Found::File(file) = found else {
-        return most;
-    };
-    if !file.closed {
-        return most;
-    }
-    put_unsafe_blocks(
-        page,
-        writer,
-        names,
-        file.blocks.as_slice(),
-        table,
-        min,
-        most,
+}
+
+impl<'a> Kept<'a> {
+    // Puts the lines of one row.
+    fn put_row<W: Write>(
+        &mut self,
+        page: &mut Page,
+        writer: &mut Writer<W>,
+        names: &[&str],
+        found: Found<'_>,
     )
-}
+        requires shows { (n : Namespace) × Shows n self.old.table.now }
+        ensures put { PutsPiece (kept_lines self.old (flat_map (unsafe_by self.old (lent_names names.now)) (closed_blocks_of (form_of found.entry)))) page.old writer.old page.new writer.new }
+        ensures left { self.new ≡ kept_after self.old (flat_map (unsafe_by self.old (lent_names names.now)) (closed_blocks_of (form_of found.entry))) }
+    {
+        let Found::File(file) = found else {
+            return;
+        };
+        if file.closed {
+            self.put_blocks(page, writer, names, file.blocks.as_slice());
+        }
+    }
 
-// The same of the blocks of a closed file.
-fn put_unsafe_blocks<W: Write>(
-    page: &mut Page,
-    writer: &mut Writer<W>,
-    names: &[&str],
-    blocks: &[Block],
-    table: &Replicas,
-    min: u16,
-    most: u64,
-) -> u64
-    requires shows { (n : Namespace) × Shows n table.now }
-    ensures put { PutsPiece (flat_map (λ l. l) (take most (flat_map (unsafe_of min (replica_at table.now) (lent_names names.now)) blocks.now))) page.old writer.old page.new writer.new }
-    ensures left { result ≡ most - length (flat_map (unsafe_of min (replica_at table.now) (lent_names names.now)) blocks.now) }
-{
-    let mut left = most;
-    let mut rest = blocks;
-    'rest: while let Some((block, later)) = rest.split_first() {
-        left = put_unsafe_block(page, writer, names, block, table, min, left);
-        rest = later;
+    // The same of the blocks of a closed file.
+    fn put_blocks<W: Write>(
+        &mut self,
+        page: &mut Page,
+        writer: &mut Writer<W>,
+        names: &[&str],
+        blocks: &[Block],
+    )
+        requires shows { (n : Namespace) × Shows n self.old.table.now }
+        ensures put { PutsPiece (kept_lines self.old (flat_map (unsafe_by self.old (lent_names names.now)) blocks.now)) page.old writer.old page.new writer.new }
+        ensures left { self.new ≡ kept_after self.old (flat_map (unsafe_by self.old (lent_names names.now)) blocks.now) }
+    {
+        let mut rest = blocks;
+        'rest: while let Some((block, later)) = rest.split_first() {
+            self.put_block(page, writer, names, block);
+            rest = later;
+        }
     }
-    left
-}
 
-// The same of one block.
-fn put_unsafe_block<W: Write>(
-    page: &mut Page,
-    writer: &mut Writer<W>,
-    names: &[&str],
-    block: &Block,
-    table: &Replicas,
-    min: u16,
-    most: u64,
-) -> u64
-    requires shows { (n : Namespace) × Shows n table.now }
-    ensures put { PutsPiece (flat_map (λ l. l) (take most (unsafe_of min (replica_at table.now) (lent_names names.now) block.now))) page.old writer.old page.new writer.new }
-    ensures left { result ≡ most - length (unsafe_of min (replica_at table.now) (lent_names names.now) block.now) }
-{
-    let live = live_count(table, block);
-    if u64::from(min) <= live {
-        return most;
+    // The same of one block.
+    fn put_block<W: Write>(
+        &mut self,
+        page: &mut Page,
+        writer: &mut Writer<W>,
+        names: &[&str],
+        block: &Block,
+    )
+        requires shows { (n : Namespace) × Shows n self.old.table.now }
+        ensures put { PutsPiece (kept_lines self.old (unsafe_by self.old (lent_names names.now) block.now)) page.old writer.old page.new writer.new }
+        ensures left { self.new ≡ kept_after self.old (unsafe_by self.old (lent_names names.now) block.now) }
+    {
+        let live = live_count(self.table, block);
+        if u64::from(self.min) <= live {
+            return;
+        }
+        if self.most == 0 {
+            return;
+        }
+        put_unsafe(page, writer, block.id, live, names);
+        self.most -= 1;
     }
-    if most == 0 {
-        return 0;
-    }
-    put_unsafe(page, writer, block.id, live, names);
-    most - 1
 }
 
 // How many live replicas a block has.

@@ -12,7 +12,7 @@ use Rattle.std.proofs.lemmas.Str.{is_utf8-from_IsUtf8, IsUtf8-from_ascii, IsUtf8
 use Rattle.std.proofs.lemmas.Str.Parse.{digit_from_value}
 use Rattle.std.proofs.Math.Seq.{take-length}
 use Rattle.nn_bytes.specs.Runs.{is_other}
-use Rattle.nn_segment.specs.Lines.{is_unbroken}
+use Rattle.nn_bytes.specs.Pieces.{is_unbroken}
 use Rattle.nn_live.specs.Words.{number_word, promotion_at, promotion_of, promotion_in, word_alone, behind_prefix, or_else, unknown_word, word_in}
 use Rattle.nn_live.proofs.WordTexts.{written}
 use Rattle.nn_live.specs.declared.word.Word.{Word}

@@ -3,7 +3,7 @@ use Rattle.std.proofs.Common.{◌≡◌, List, ℕ, false, length, ◌==◌, [],
 use Rattle.nn_types.specs.declared.tx.Tx.{Tx}
 use Rattle.nn_edits.specs.Reading.{either_of_line}
 use Rattle.nn_edits.specs.declared.line.Line.TheVariants as either
-use Rattle.nn_scenario.specs.Scenario.{is_blank}
+use Rattle.nn_bytes.specs.Lines.{is_blank}
 use Rattle.nn_live.specs.Live.{LiveSetup, ServiceState, answers, counts_line, takes, takes_edit, takes_read, takes_torn}
 use Rattle.nn_live.specs.Serving.{Breaks, FollowsStep, Service}
 use Rattle.nn_live.specs.Words.{word_in}

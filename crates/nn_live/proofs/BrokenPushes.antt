@@ -1,12 +1,13 @@
 -- Where the code could not go on with some bytes, a line of them was not taken.
 use Rattle.std.proofs.Common.{◌≡◌, ℕ, true, List, [], ◌∷◌, ◌++◌, refl, sym, subst, ap, ◌∙◌, append_assoc, append-nil}
 use Rattle.nn_bytes.specs.Lines.{line_feed}
-use Rattle.nn_segment.specs.Lines.{is_unbroken}
-use Rattle.nn_live.specs.Live.{LiveSetup, ServiceState, Stage, pieces, serving, takes, written_of}
+use Rattle.nn_bytes.proofs.PieceLemmas.{unbroken_both}
+use Rattle.nn_bytes.specs.Pieces.{is_unbroken, pieces}
+use Rattle.nn_live.specs.Live.{LiveSetup, ServiceState, Stage, serving, takes, written_of}
 use Rattle.nn_live.specs.Serving.{Breaks, Service}
 use Rattle.nn_live.specs.Taking.{BreaksPush, HasTorn, Live, Pushes, TakenAllBut, Torn, stage_after}
 use Rattle.nn_live.proofs.Breaking.{nothing_first}
-use Rattle.nn_live.proofs.Cutting.{ended, line_goes_on, unbroken_both}
+use Rattle.nn_live.proofs.Cutting.{ended, line_goes_on}
 use Rattle.nn_live.proofs.Growing.{pieces_grow}
 
 -- what the lines of these bytes make it write

@@ -12,13 +12,14 @@ use Rattle.nn_edits.specs.declared.line.Line.{Line}
 use Rattle.nn_edits.specs.declared.line.Line.TheVariants as either
 use Rattle.nn_edits.proofs.LineGrammar.{either_line_ok, edit_line_has}
 use Rattle.nn_model.specs.Log.{counted}
-use Rattle.nn_segment.specs.Lines.{is_unbroken, reads_of}
+use Rattle.nn_segment.specs.Lines.{reads_of}
+use Rattle.nn_bytes.specs.Lines.{is_blank}
+use Rattle.nn_bytes.specs.Pieces.{is_unbroken}
 use Rattle.nn_segment.specs.Reading.{read_segment, fault_of_segment, txs_in, unless}
 use Rattle.nn_segment.specs.Segment.{Segment, is_start, is_end}
 use Rattle.nn_segment.specs.declared.fault.SegmentFault.{SegmentFault}
 use Rattle.nn_segment.proofs.ReadingLemmas.{all_txs as txs_back}
 use Rattle.nn_scenario.specs.Cut.{EditLine, Part, AreRead, no_lines, with_line, part_name, segment_of}
-use Rattle.nn_scenario.specs.Scenario.{is_blank}
 use Rattle.nn_scenario.specs.Steps.{message_in_turn}
 use Rattle.nn_scenario.proofs.SegmentLemmas.{read_back, none_read, one_more_read}
 use Rattle.nn_shadow.specs.declared.fault.ApplyFault.{ApplyFault}

@@ -1,33 +1,16 @@
 -- An input that is cut into its lines as it comes.
-use Rattle.std.proofs.Common.{◌≡◌, ℕ, flat_map, ◌+◌, ◌-◌, ◌<◌, ◌≤◌, ◌==◌, Bool, true, false, cond, not, List, [], ◌∷◌, ◌++◌, length, length-drop, take, drop, get_or, refl, sym, subst, ap, ap₂, ◌∙◌, arith, append_assoc, append-nil, length-append, zero, suc, ◌&&◌}
-use Rattle.std.specs.List.{onto_first}
+use Rattle.std.proofs.Common.{◌≡◌, ℕ, flat_map, ◌+◌, ◌-◌, ◌<◌, ◌≤◌, ◌==◌, Bool, true, false, not, List, [], ◌∷◌, ◌++◌, length, length-drop, take, drop, get_or, refl, sym, subst, ap, ap₂, ◌∙◌, arith, append_assoc, append-nil, length-append, zero, suc, ◌&&◌}
 use Rattle.std.specs.Prelude.{nat_lt}
-use Rattle.std.proofs.lemmas.Bool.{and_parts, and_from, not-true, ltb-true, ltb-false}
+use Rattle.std.proofs.lemmas.Bool.{and_parts, and_from, ltb-true, ltb-false}
 use Rattle.std.proofs.Math.Seq.{drop-cons}
 use Rattle.std.proofs.lemmas.List.{nil_from_length, take-append-drop}
 use Rattle.std.proofs.lemmas.List.Folds.{list_all-append}
-use Rattle.nn_bytes.specs.Lines.{line_feed}
-use Rattle.nn_segment.specs.Lines.{is_unbroken}
-use Rattle.nn_scenario.specs.Scenario.{is_blank, is_blank_byte}
-use Rattle.nn_live.specs.Live.{LiveSetup, ServiceState, Stage, ends, pieces, serving, takes, takes_end, takes_pieces, takes_torn, written_of}
+use Rattle.nn_bytes.specs.Lines.{is_blank, is_blank_byte, line_feed}
+use Rattle.nn_bytes.specs.Pieces.{is_unbroken}
+use Rattle.nn_bytes.proofs.PieceLemmas.{cut_first, one_piece, some_piece, unbroken_both}
+use Rattle.nn_live.specs.Live.{LiveSetup, ServiceState, Stage, ends, serving, takes, takes_end, takes_pieces, takes_torn, written_of}
 use Rattle.nn_live.specs.Serving.{Service, IsAtService, FollowsStep}
 use Rattle.nn_live.specs.Taking.{IsLong, Torn, Live, HasTorn, stage_after, Comes, MayBeCut, TakesBytes, Pushes, EndsInput}
-
-pub cut_first : (line more : List ℕ) → is_unbroken line ≡ true → pieces (line ++ line_feed ∷ more) ≡ line ∷ pieces more
-cut_first [] more whole = refl
-cut_first (b ∷ line) more whole =
-    let both = and_parts (not (b == line_feed)) (is_unbroken line) whole in
-    ap (λ t. cond t ([] ∷ pieces (line ++ line_feed ∷ more)) (onto_first b (pieces (line ++ line_feed ∷ more)))) (not-true (b == line_feed) both.0)
-    ∙ ap (onto_first b) (cut_first line more both.1)
-
--- there is always one
-pub some_piece : (text : List ℕ) → (p : List ℕ) × (ps : List (List ℕ)) × (pieces text ≡ p ∷ ps)
-some_piece [] = ([], [], refl)
-some_piece (b ∷ text) = at (b == line_feed) (some_piece text)
-  where
-    at : (c : Bool) → (p : List ℕ) × (ps : List (List ℕ)) × (pieces text ≡ p ∷ ps) → (p : List ℕ) × (ps : List (List ℕ)) × (cond c ([] ∷ pieces text) (onto_first b (pieces text)) ≡ p ∷ ps)
-    at true (p, ps, e) = ([], pieces text, refl)
-    at false (p, ps, e) = (b ∷ p, ps, ap (onto_first b) e)
 
 -- a line of several is taken, and the others follow
 one_taken : (asked : LiveSetup) (line p : List ℕ) (ps : List (List ℕ)) (s : ServiceState) → takes_pieces asked (line ∷ p ∷ ps) (serving s) ≡ takes_pieces asked (p ∷ ps) (serving (takes asked line s))
@@ -40,9 +23,6 @@ line_goes_on asked s line more whole =
     ap (λ ps. takes_pieces asked ps (serving s)) (cut_first line more whole ∙ ap (λ ps. line ∷ ps) others.2)
     ∙ one_taken asked line others.0 others.1 s
     ∙ ap (λ ps. takes_pieces asked ps (serving (takes asked line s))) (sym others.2)
-
-pub unbroken_both : (some more : List ℕ) → is_unbroken some ≡ true → is_unbroken more ≡ true → is_unbroken (some ++ more) ≡ true
-unbroken_both some more u v = list_all-append (λ b. not (b == line_feed)) some more ∙ and_from _ _ u v
 
 -- ---- What the code has taken.
 
@@ -238,12 +218,6 @@ all_came [] x y told (same, none) = subst (λ t. Pushes [] x y t) (sym none) (su
 all_came (bytes ∷ chunks) x y told (mid, first, later, one, others, is) =
     let rest = flat_map (λ b. b) chunks in
     subst (λ t. Pushes (bytes ++ rest) x y t) (sym is) (then_pushes bytes rest first later x mid y one (all_came chunks mid y later others))
-
-pub one_piece : (torn : List ℕ) → is_unbroken torn ≡ true → pieces torn ≡ torn ∷ []
-one_piece [] whole = refl
-one_piece (b ∷ torn) whole =
-    let both = and_parts (not (b == line_feed)) (is_unbroken torn) whole in
-    ap (λ t. cond t ([] ∷ pieces torn) (onto_first b (pieces torn))) (not-true (b == line_feed) both.0) ∙ ap (onto_first b) (one_piece torn both.1)
 
 pub ended : (asked : LiveSetup) (s : ServiceState) (torn : List ℕ) → is_unbroken torn ≡ true → stage_after asked s torn ≡ (serving s, torn)
 unfolding takes_pieces

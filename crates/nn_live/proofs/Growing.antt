@@ -10,7 +10,7 @@ use Rattle.nn_edits.specs.declared.line.Line.{Line}
 use Rattle.nn_edits.specs.declared.line.Line.TheVariants as either
 use Rattle.nn_model.specs.Log.{counted}
 use Rattle.nn_scenario.specs.Cut.{EditLine, Part, segment_of}
-use Rattle.nn_scenario.specs.Scenario.{is_blank}
+use Rattle.nn_bytes.specs.Lines.{is_blank}
 use Rattle.nn_scenario.specs.Steps.{message_in_turn}
 use Rattle.nn_segment.specs.Segment.{Segment, is_start, is_end, first_txid}
 use Rattle.nn_segment.specs.declared.fault.SegmentFault.{SegmentFault}

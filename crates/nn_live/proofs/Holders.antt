@@ -19,7 +19,7 @@ use Rattle.nn_model.proofs.Dues.{blocks_in}
 use Rattle.nn_model.proofs.Logs.{log_keeps_blocks}
 use Rattle.nn_model.proofs.Wells.{times-append}
 use Rattle.nn_listing.specs.Listing.{path_json}
-use Rattle.nn_segment.specs.Lines.{is_unbroken}
+use Rattle.nn_bytes.specs.Pieces.{is_unbroken}
 use Rattle.nn_live.specs.Answers.{about_block, block_answer, block_head, block_line, head_text, holder_lines, replicas_answer}
 use Rattle.nn_live.specs.Laws.{IsReadIn, served}
 use Rattle.nn_live.specs.Live.{LiveSetup, ServiceState}

@@ -5,7 +5,7 @@ use Rattle.std.proofs.lemmas.List.{length-map, nil_from_length}
 use Rattle.nn_bytes.specs.Lines.{line_feed}
 use Rattle.nn_types.specs.declared.tx.Tx.{Tx}
 use Rattle.nn_edits.specs.Reading.{edit_of_line}
-use Rattle.nn_segment.specs.Lines.{joined_lines}
+use Rattle.nn_bytes.specs.Pieces.{joined_lines}
 use Rattle.nn_segment.specs.Segment.{Segment, IsSegment, is_end, starts, ends_once, last_txid, max_bytes}
 use Rattle.nn_segment.specs.declared.fault.SegmentFault.{SegmentFault}
 use Rattle.nn_segment.proofs.SegmentLemmas.{read_is_segment}

@@ -14,12 +14,13 @@ use Rattle.nn_edits.proofs.LineGrammar.{either_line_ok, lawful_line}
 use Rattle.nn_model.specs.Lanes.{Lanes, followed_by}
 use Rattle.nn_model.specs.Namespace.{Namespace}
 use Rattle.nn_model.specs.WellFormed.{HasWellFormedBlocks}
-use Rattle.nn_segment.specs.Lines.{is_unbroken}
+use Rattle.nn_bytes.specs.Lines.{is_blank}
+use Rattle.nn_bytes.specs.Pieces.{is_unbroken}
 use Rattle.nn_segment.specs.LogEnd.{LogEnd, LogStop, end_of_log}
 use Rattle.nn_segment.specs.Segment.{Segment, is_start, is_end}
 use Rattle.nn_segment.proofs.SegmentLemmas.{read_is_segment}
 use Rattle.nn_scenario.specs.Cut.{EditLine, Part, AreRead, no_lines, with_line, parts_from, part_name, segment_of, segments_from}
-use Rattle.nn_scenario.specs.Scenario.{ScenarioLine, edit, report, line_as, is_blank, lines_from, edit_lines, steps_from}
+use Rattle.nn_scenario.specs.Scenario.{ScenarioLine, edit, report, line_as, lines_from, edit_lines, steps_from}
 use Rattle.nn_scenario.specs.Steps.{message_in_turn, lanes_after}
 use Rattle.nn_scenario.proofs.SegmentLemmas.{none_read}
 use Rattle.nn_shadow.specs.Calls.{received}

@@ -15,7 +15,7 @@ use Rattle.nn_model.specs.Log.{counted}
 use Rattle.nn_segment.specs.Segment.{Segment}
 use Rattle.nn_segment.specs.declared.fault.SegmentFault.{SegmentFault}
 use Rattle.nn_scenario.specs.Cut.{EditLine, segment_of}
-use Rattle.nn_scenario.specs.Scenario.{is_blank}
+use Rattle.nn_bytes.specs.Lines.{is_blank}
 use Rattle.nn_scenario.specs.Steps.{message_in_turn}
 use Rattle.nn_types.specs.declared.report.Message.{Message}
 use Rattle.nn_shadow.specs.declared.fault.ApplyFault.{ApplyFault}

@@ -17,7 +17,7 @@ use Rattle.nn_edits.specs.Outcome.{◌>>=◌}
 use Rattle.nn_edits.specs.Reading.{either_of_line, either_in, object_in, object_only, value_of}
 use Rattle.nn_edits.specs.declared.fault.LineFault.TheVariants.{NotJson, LineTooLong}
 use Rattle.nn_edits.specs.declared.line.Line.{Line}
-use Rattle.nn_scenario.specs.Scenario.{is_blank}
+use Rattle.nn_bytes.specs.Lines.{is_blank}
 use Rattle.nn_live.specs.Words.{word_in}
 use Rattle.nn_live.proofs.WordTexts.{no_letter}
 

@@ -8,7 +8,7 @@ use Rattle.nn_edits.specs.Fault.{number_of}
 use Rattle.nn_edits.specs.Reading.{either_of_line}
 use Rattle.nn_edits.specs.declared.fault.LineFault.{LineFault}
 use Rattle.nn_listing.specs.Summary.{line}
-use Rattle.nn_scenario.specs.Scenario.{is_blank, is_blank_byte}
+use Rattle.nn_bytes.specs.Lines.{is_blank, is_blank_byte}
 use Rattle.nn_live.specs.Help.{unknown_text}
 use Rattle.nn_live.specs.Live.{LiveSetup, ServiceState, answers, counts_line, takes, takes_read, takes_torn}
 use Rattle.nn_live.specs.WordLaws.{IsMistyped, IsNothing, MistypedChangesNothing, NothingChangesNothing, TornWordChangesNothing, next_fault, only_told}

@@ -6,7 +6,7 @@ use Rattle.std.proofs.lemmas.List.{nil_from_length}
 use Rattle.std.proofs.lemmas.List.Elements.{All-nil, All-head, All-tail}
 use Rattle.nn_types.specs.declared.tx.Tx.{Tx}
 use Rattle.nn_edits.specs.Reading.{edit_of_line}
-use Rattle.nn_segment.specs.Lines.{is_unbroken, joined_lines}
+use Rattle.nn_bytes.specs.Pieces.{is_unbroken, joined_lines}
 use Rattle.nn_segment.specs.Segment.{Segment, is_start, is_end, ends_once}
 use Rattle.nn_segment.specs.declared.fault.SegmentFault.{SegmentFault}
 use Rattle.nn_segment.proofs.SegmentLemmas.{read_is_segment}

@@ -9,17 +9,17 @@ use Rattle.nn_tree.specs.Restore.{row_fits}
 use Rattle.std.specs.Ordering.{is_lt}
 use Rattle.nn_bytes.specs.Lines.{line_feed}
 use Rattle.nn_model.specs.declared.form.Form.{Form}
-use Rattle.nn_segment.specs.Lines.{is_unbroken, joined_lines}
+use Rattle.nn_bytes.proofs.PieceLemmas.{joined_more, some_piece, unbroken_both}
+use Rattle.nn_bytes.specs.Pieces.{is_unbroken, joined_lines, pieces}
 use Rattle.nn_image.specs.Loading.{Loading, TakesLine, at_header, behind_end, ends_with, fault_of_loading, in_rows, is_first, loaded_from, refused as bad}
 use Rattle.nn_image.specs.Reading.{all_from, at_end_line, by_key, by_value, fields_in, has_end, is_end_line, last_path, next_line_number, nothing_more, number_under, whole_value, object_of, of_header, of_version, pieces_of, read_image, row_of_line, rows_from, value_of_line, with_next_row, with_rows, ◌then◌}
 use Rattle.nn_image.specs.declared.fault.ImageFault.{ImageFault}
 use Rattle.nn_image.specs.declared.fault.ImageFault.TheVariants.{NotHeader, BadLine, WrongOrder, CountMismatch, Truncated, BadVersion, ReadFault, OutOfMemory}
 use Rattle.nn_image.proofs.LoadedLines.{piece}
-use Rattle.nn_live.specs.Live.{LiveSetup, Stage, image_lines, loaded, loading, pieces, refused, so_far, takes_line, takes_pieces}
+use Rattle.nn_live.specs.Live.{LiveSetup, Stage, image_lines, loaded, loading, refused, so_far, takes_line, takes_pieces}
 use Rattle.nn_live.specs.Opening.{IsEnded, IsOpening, Opening, OpensTo, loads_on}
 use Rattle.nn_live.specs.declared.opening.Opened.{Opened}
 use Rattle.nn_live.specs.declared.opening.Opened.TheVariants as opened
-use Rattle.nn_live.proofs.Cutting.{some_piece, unbroken_both}
 
 -- ---- A line's fault is never that the image has not ended.
 
@@ -179,10 +179,6 @@ judged_is lines Truncated is = absurd (is refl)
 judged_is lines BadVersion is = refl
 judged_is lines ReadFault is = refl
 judged_is lines OutOfMemory is = refl
-
-joined_more : (lines : List (List ℕ)) (line : List ℕ) → joined_lines (lines ++ line ∷ []) ≡ joined_lines lines ++ (line ++ line_feed ∷ [])
-joined_more [] line = append-nil (line ++ line_feed ∷ [])
-joined_more (l ∷ lines) line = ap (λ t. (l ++ line_feed ∷ []) ++ t) (joined_more lines line) ∙ sym (append_assoc (l ++ line_feed ∷ []) (joined_lines lines) (line ++ line_feed ∷ []))
 
 cut_line : (line more : List ℕ) → is_unbroken line ≡ true → pieces_of (line ++ line_feed ∷ more) ≡ line ∷ pieces_of more
 cut_line line more whole = piece line more whole

@@ -8,9 +8,10 @@ use Rattle.nn_edits.specs.Reading.{either_of_line}
 use Rattle.nn_edits.specs.declared.fault.LineFault.{LineFault}
 use Rattle.nn_edits.specs.declared.line.Line.{Line}
 use Rattle.nn_edits.specs.declared.line.Line.TheVariants as either
-use Rattle.nn_segment.specs.Lines.{is_unbroken}
+use Rattle.nn_bytes.specs.Lines.{is_blank}
+use Rattle.nn_bytes.specs.Pieces.{is_unbroken}
 use Rattle.nn_scenario.specs.declared.scenario.ScenarioFault.{ScenarioFault}
-use Rattle.nn_scenario.specs.Scenario.{ScenarioLine, line_as, is_blank, with_read, lines_from, edit_lines}
+use Rattle.nn_scenario.specs.Scenario.{ScenarioLine, line_as, with_read, lines_from, edit_lines}
 use Rattle.nn_scenario.proofs.LineLemmas.{edit_alone, edit_from_one}
 use Rattle.nn_live.proofs.OpenPart.{IsReadLine}
 

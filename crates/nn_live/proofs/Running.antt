@@ -2,10 +2,12 @@
 use Rattle.std.proofs.Common.{◌≡◌, ℕ, Bool, true, false, cond, is_some, List, [], ◌∷◌, ◌++◌, Result, Ok, Err, refl, sym, subst, ap, ap₂, ◌∙◌, inl, inr, append-nil, append_assoc}
 use Rattle.std.specs.Prelude.{IfErr}
 use Rattle.std.specs.Result.{IsErrAnd}
-use Rattle.nn_engine.specs.Output.{image_fault}
+use Rattle.nn_run.specs.Output.{image_fault}
 use Rattle.nn_image.specs.declared.fault.ImageFault.TheVariants.{Truncated}
 use Rattle.nn_model.specs.Namespace.{Namespace}
-use Rattle.nn_live.specs.Live.{LiveSetup, Stage, stage_at_end, new_service, ends, live_text, loading, pieces, refused, serving, so_far, exit_status, takes_end, takes_pieces, takes_torn, told_so_far, written_of}
+use Rattle.nn_live.specs.Live.{LiveSetup, Stage, stage_at_end, new_service, ends, live_text, loading, refused, serving, so_far, exit_status, takes_end, takes_pieces, takes_torn, told_so_far, written_of}
+use Rattle.nn_bytes.proofs.PieceLemmas.{one_piece}
+use Rattle.nn_bytes.specs.Pieces.{pieces}
 use Rattle.nn_live.specs.Opening.{IsOpening, Opening}
 use Rattle.nn_live.specs.Running.{IsHalt, IsServing, LacksEnd, asked_by, live_output, lines_say}
 use Rattle.nn_live.specs.Serving.{IsAtService}
@@ -13,7 +15,7 @@ use Rattle.nn_live.specs.Taking.{BreaksEnd, BreaksPush, EndsInput, HasTorn, Lack
 use Rattle.nn_live.specs.declared.run.EndFault.{EndFault}
 use Rattle.nn_live.specs.declared.run.EndFault.TheVariants as halt
 use Rattle.nn_live.specs.declared.run.LiveOptions.{LiveOptions}
-use Rattle.nn_live.proofs.Cutting.{ended, one_piece}
+use Rattle.nn_live.proofs.Cutting.{ended}
 
 -- why a call ends
 pub at_err : {T : Type 0} (r : Result T EndFault) (P : EndFault → Type 0) (why : EndFault) → IsErrAnd r (λ e. e ≡ why) → P why → IfErr r P

@@ -7,7 +7,7 @@ use lib.Utf8.{encode}
 use Rattle.std.proofs.lemmas.Bool.{and_parts, and_from, eq-eqb, le-ltb}
 use Rattle.std.proofs.lemmas.List.Elements.{All-nil, All-head, All-tail}
 use Rattle.std.proofs.lemmas.List.Folds.{list_all-append}
-use Rattle.nn_bytes.specs.Lines.{line_feed}
+use Rattle.nn_bytes.specs.Lines.{is_blank, line_feed}
 use Rattle.nn_types.specs.Number.{IsNumber}
 use Rattle.nn_types.specs.declared.fault.TheConstants.{NO_END, DISORDER, STALE_EPOCH}
 use Rattle.nn_types.specs.declared.tx.Tx.{Tx}
@@ -20,13 +20,14 @@ use Rattle.nn_model.specs.Items.{items}
 use Rattle.nn_model.specs.Log.{IsLog}
 use Rattle.nn_model.specs.Namespace.{Namespace, root_alone}
 use Rattle.nn_model.proofs.Equals.{root_alone_is_well_formed}
-use Rattle.nn_segment.specs.Lines.{joined_lines, is_unbroken}
+use Rattle.nn_bytes.proofs.PieceLemmas.{pieces_of_lines}
+use Rattle.nn_bytes.specs.Pieces.{is_unbroken, joined_lines}
 use Rattle.nn_segment.specs.LogEnd.{LogEnd, LogStop, end_of_log}
 use Rattle.nn_segment.specs.Segment.{Segment}
 use Rattle.nn_scenario.specs.Cut.{Part, no_lines, cut, segments_from}
 use Rattle.nn_scenario.specs.declared.scenario.ScenarioFault.{ScenarioFault}
 use Rattle.nn_scenario.specs.declared.segments.PartFault.{PartFault}
-use Rattle.nn_scenario.specs.Scenario.{ScenarioLine, is_blank, with_read, lines_from, edit_lines, steps_of, scenario_lines, scenario_from, scenario_of}
+use Rattle.nn_scenario.specs.Scenario.{ScenarioLine, with_read, lines_from, edit_lines, steps_of, scenario_lines, scenario_from, scenario_of}
 use Rattle.nn_scenario.specs.Steps.{lanes_of_steps}
 use Rattle.nn_listing.specs.Listing.{listing_text, row_line}
 use Rattle.nn_listing.specs.Summary.{line}
@@ -35,28 +36,22 @@ use Rattle.nn_listing.specs.Trail.{history_text}
 use Rattle.nn_shadow.specs.declared.fault.FlushFault.TheVariants as flush
 use Rattle.nn_shadow.specs.Calls.{flushed}
 use Rattle.nn_shadow.specs.Refusals.{flush_refusal}
-use Rattle.nn_engine.specs.Output.{Printed, after_lines, after_segments, after_log, output_of, with_history, IsPrinted}
-use Rattle.nn_engine.specs.Start.{from_root}
+use Rattle.nn_run.specs.Output.{Printed, after_lines, after_segments, after_log, output_of, with_history, IsPrinted}
+use Rattle.nn_run.specs.Start.{from_root}
 use Rattle.nn_live.specs.Laws.{IsReadIn, served}
-use Rattle.nn_live.specs.Live.{LiveSetup, ServiceState, Stage, new_service, says_done, names, becomes_active, promotes, promotes_in, ends_at, does, answers, tells_fault, ends, ends_segment, is_between, pieces, serving, takes_end, takes_torn, takes_word, takes, takes_all, counts_line, written_of, exit_status, live_text, stage_at_end}
+use Rattle.nn_live.specs.Live.{LiveSetup, ServiceState, Stage, new_service, says_done, names, becomes_active, promotes, promotes_in, ends_at, does, answers, tells_fault, ends, ends_segment, is_between, serving, takes_end, takes_torn, takes_word, takes, takes_all, counts_line, written_of, exit_status, live_text, stage_at_end}
 use Rattle.nn_live.specs.Words.{word_in, word_alone}
 use Rattle.nn_live.specs.declared.word.Word.TheVariants as kind
 use Rattle.nn_live.specs.SameRun.{tables_alone, then_promoted, done_line, IsServedAlike, ServesAsARun}
 use Rattle.nn_live.specs.Taking.{stage_after}
 use Rattle.nn_live.proofs.Asked.{promotion_is_read, promotion_is_unbroken}
 use Rattle.nn_live.proofs.Came.{follows_what_came}
-use Rattle.nn_live.proofs.Cutting.{cut_first, line_goes_on, ended}
+use Rattle.nn_live.proofs.Cutting.{line_goes_on, ended}
 use Rattle.nn_live.proofs.InStep.{Ended, all_taken, first_step}
 use Rattle.nn_live.proofs.Standing.{answers_the_picture}
 use Rattle.nn_live.proofs.Twice.{all_append}
 
 -- ---- The text as lines.
-
-pieces_of_lines : (texts : List (List ℕ)) → list_all is_unbroken texts ≡ true → pieces (joined_lines texts) ≡ texts ++ [] ∷ []
-pieces_of_lines [] whole = refl
-pieces_of_lines (text ∷ texts) whole =
-    let both = and_parts (is_unbroken text) (list_all is_unbroken texts) whole in
-    ap pieces (append_assoc text (line_feed ∷ []) (joined_lines texts)) ∙ cut_first text (joined_lines texts) both.0 ∙ ap (λ ts. text ∷ ts) (pieces_of_lines texts both.1)
 
 -- what stands behind the last line feed is no line
 no_last_line : (m : ℕ) (texts : List (List ℕ)) → lines_from m (texts ++ [] ∷ []) ≡ lines_from m texts

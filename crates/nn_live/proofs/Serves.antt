@@ -8,7 +8,7 @@ use Rattle.nn_device.specs.Page.{Page, HasGone, HasPut}
 use Rattle.nn_device.specs.Parts.{TookPrefix}
 use Rattle.nn_device.specs.declared.writer.OutputFault.{OutputFault}
 use Rattle.nn_device.specs.declared.writer.OutputFault.TheVariants.{WriteFailed}
-use Rattle.nn_engine.specs.Output.{image_fault}
+use Rattle.nn_run.specs.Output.{image_fault}
 use Rattle.nn_image.specs.declared.fault.ImageFault.{ImageFault}
 use Rattle.nn_live.specs.Live.{ended, refused, so_far, exit_status, told_so_far, written_of}
 use Rattle.nn_live.specs.Running.{EndsRun, GaveBytes, Halts, HaltsAtEnd, IsHalt, IsOfLines, IsCutOff, IsLiveOutput, IsReader, IsStage, IsToldAtOnce, IsUntaken, Run, asked_by, halt_text, live_output, serving_by}

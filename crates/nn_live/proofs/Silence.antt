@@ -10,7 +10,7 @@ use Rattle.nn_model.specs.Log.{counted, CountsUp}
 use Rattle.nn_model.specs.WellFormed.{Includes}
 use Rattle.nn_model.proofs.Logs.{counts_up}
 use Rattle.nn_segment.specs.Fault.{number_of as segment_number_of}
-use Rattle.nn_segment.specs.Lines.{is_unbroken}
+use Rattle.nn_bytes.specs.Pieces.{is_unbroken}
 use Rattle.nn_segment.specs.Segment.{Segment, is_start, is_end, ends_once, first_txid, last_txid}
 use Rattle.nn_segment.specs.declared.fault.SegmentFault.{SegmentFault}
 use Rattle.nn_scenario.specs.Cut.{AreRead, EditLine, Part, no_lines, with_line, segment_of}

@@ -25,7 +25,7 @@ use Rattle.nn_listing.specs.Tables.{of_each, replica_text, order_text, blocks_li
 use Rattle.nn_segment.specs.Segment.{Segment, is_end}
 use Rattle.nn_segment.specs.declared.fault.SegmentFault.{SegmentFault}
 use Rattle.nn_scenario.specs.Cut.{EditLine, segment_of}
-use Rattle.nn_scenario.specs.Scenario.{is_blank}
+use Rattle.nn_bytes.specs.Lines.{is_blank}
 use Rattle.nn_scenario.specs.Steps.{message_in_turn}
 use Rattle.nn_shadow.specs.declared.fault.ApplyFault.{ApplyFault}
 use Rattle.nn_shadow.specs.declared.fault.ApplyFault.TheVariants.{Stopped, AlreadyActive, Disorder, Refused, OutOfMemory}

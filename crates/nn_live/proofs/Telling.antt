@@ -4,7 +4,7 @@ use Rattle.std.specs.Prelude.{flat_map, filter, decimal, drop}
 use Rattle.std.specs.List.{All}
 use Rattle.std.proofs.lemmas.List.{flat_map_more}
 use Rattle.std.proofs.lemmas.List.Elements.{All-nil, All-cons, All-head, All-tail, All-append, All-take}
-use Rattle.nn_bytes.specs.Lines.{line_feed}
+use Rattle.nn_bytes.specs.Lines.{is_blank, line_feed}
 use Rattle.nn_types.specs.declared.block.Block.{Block}
 use Rattle.nn_types.specs.declared.fault.TheConstants.{NOT_JSON, NO_END, DISORDER, STALE_EPOCH}
 use Rattle.nn_types.specs.declared.replica.Replica.{Replica}
@@ -34,7 +34,6 @@ use Rattle.nn_listing.specs.Summary.{Summary, Sender, Counts, line, report_part,
 use Rattle.nn_listing.specs.Tables.{datanodes, said_ids, of_each, order_text, order_lines_by, replica_text, replica_lines_by, blocks_line}
 use Rattle.nn_listing.specs.Trail.{history_text}
 use Rattle.nn_scenario.specs.Cut.{EditLine, no_lines, segment_of}
-use Rattle.nn_scenario.specs.Scenario.{is_blank}
 use Rattle.nn_scenario.specs.Steps.{message_in_turn}
 use Rattle.nn_segment.specs.Fault.{number_of as segment_number_of}
 use Rattle.nn_segment.specs.Lines.{is_ended}

@@ -19,8 +19,8 @@ use Rattle.nn_listing.specs.Summary.{line}
 use Rattle.nn_listing.specs.Tables.{tables_text}
 use Rattle.nn_listing.specs.Trail.{history_text}
 use Rattle.nn_scenario.specs.Cut.{EditLine}
-use Rattle.nn_scenario.specs.Scenario.{is_blank}
-use Rattle.nn_segment.specs.Lines.{is_unbroken}
+use Rattle.nn_bytes.specs.Lines.{is_blank}
+use Rattle.nn_bytes.specs.Pieces.{is_unbroken}
 use Rattle.nn_segment.specs.Segment.{starts, ends_once}
 use Rattle.nn_scenario.specs.Steps.{message_in_turn}
 use Rattle.nn_shadow.specs.declared.fault.HandCause.{HandCause}

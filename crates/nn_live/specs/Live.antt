@@ -1,7 +1,6 @@
 -- What a standby in service writes for the lines that it has read: a fold over them, with the standby's own functions.
 use Rattle.std.specs.Prelude.{ℕ, ◌+◌, ◌-◌, Bool, true, false, not, ◌==◌, ◌&&◌, ◌||◌, nat_lt, if◌then◌else◌, List, [], ◌∷◌, ◌++◌, length, map, max, Option, Some, None, Result, Ok, Err, codes, decimal, is_some}
-use Rattle.std.specs.List.{slice_split}
-use Rattle.nn_bytes.specs.Lines.{line_feed}
+use Rattle.nn_bytes.specs.Lines.{is_blank}
 use Rattle.nn_types.specs.declared.fault.TheConstants.{NOT_JSON, NO_END, DISORDER, STALE_EPOCH}
 use Rattle.nn_types.specs.declared.report.Kind.{Kind}
 use Rattle.nn_types.specs.declared.report.Kind.TheVariants.{Begin, Finish}
@@ -25,11 +24,10 @@ use Rattle.nn_image.specs.Text.{image_text}
 use Rattle.nn_image.specs.declared.fault.ImageFault.{ImageFault}
 use Rattle.nn_image.specs.declared.fault.ImageFault.TheVariants.{Truncated}
 use Rattle.nn_segment.specs.Fault.{number_of as segment_number_of}
-use Rattle.nn_segment.specs.Lines.{joined_lines}
+use Rattle.nn_bytes.specs.Pieces.{joined_lines, pieces}
 use Rattle.nn_segment.specs.Segment.{Segment, is_start, is_end, first_txid, last_txid}
 use Rattle.nn_segment.specs.declared.fault.SegmentFault.{SegmentFault}
 use Rattle.nn_scenario.specs.Cut.{EditLine, Part, no_lines, with_line, segment_of}
-use Rattle.nn_scenario.specs.Scenario.{is_blank}
 use Rattle.nn_scenario.specs.Steps.{message_in_turn}
 use Rattle.nn_listing.specs.Listing.{listing_text}
 use Rattle.nn_listing.specs.Trail.{history_text}
@@ -39,7 +37,7 @@ use Rattle.nn_shadow.specs.declared.fault.HandCause.{HandCause}
 use Rattle.nn_shadow.specs.Calls.{applied_to, received, flushed, without_history}
 use Rattle.nn_shadow.specs.Numbers.{number_of_apply, number_of_hand, number_of_flush}
 use Rattle.nn_shadow.specs.Refusals.{Phase, apply_refusal, hand_refusal, flush_refusal, phase_after_apply}
-use Rattle.nn_engine.specs.Output.{image_fault}
+use Rattle.nn_run.specs.Output.{image_fault}
 use Rattle.nn_listing.specs.Summary.{line, summary_of}
 use Rattle.nn_listing.specs.Safety.{unsafe_in}
 use Rattle.nn_live.specs.Answers.{Figures, status_lines, first_lines, held_line, block_answer, replicas_answer, path_answer, tables_now}
@@ -346,10 +344,6 @@ abbrev pub exit_status : Stage → ℕ
 exit_status (loading lines) = 1
 exit_status (refused fault) = 1
 exit_status (serving s) = if is_some s.phase.stopped then 1 else 0
-
--- what stands between the line feeds
-abbrev pub pieces : List ℕ → List (List ℕ)
-pieces input = slice_split (λ b. b == line_feed) input
 
 -- What the lines so far of an input come to, and what stands behind its last line feed.
 abbrev pub so_far : LiveSetup → Bool → List ℕ → Stage × List ℕ

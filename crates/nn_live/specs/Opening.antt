@@ -2,8 +2,8 @@
 use Rattle.std.specs.Prelude.{◌≡◌, ◌<◌, ◌^◌, ℕ, true, None, List, [], ◌∷◌, ◌++◌, Ok, Err}
 use Rattle.nn_image.specs.Loading.{Loading, fault_of_loading, loaded_from}
 use Rattle.nn_image.specs.Reading.{pieces_of, read_image}
-use Rattle.nn_segment.specs.Lines.{is_unbroken, joined_lines}
-use Rattle.nn_live.specs.Live.{LiveSetup, Stage, new_service, loading, pieces, refused, so_far, takes_pieces}
+use Rattle.nn_bytes.specs.Pieces.{is_unbroken, joined_lines, pieces}
+use Rattle.nn_live.specs.Live.{LiveSetup, Stage, new_service, loading, refused, so_far, takes_pieces}
 use Rattle.nn_live.specs.Taking.{stage_after}
 use Rattle.nn_live.specs.declared.opening.Opened.{Opened}
 use Rattle.nn_live.specs.declared.opening.Opened.TheVariants as opened

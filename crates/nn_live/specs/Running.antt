@@ -2,10 +2,10 @@
 use Rattle.std.specs.Prelude.{◌≡◌, ◌⊎◌, ◌+◌, ◌^◌, ◌≤◌, ◌++◌, [], ℕ, Bool, true, List, length, Option, Some, None}
 use Rattle.std.specs.Io.KnownBytes.{Consumes, IsAtEnd}
 use Rattle.nn_device.specs.Device.{Reader, Writer, Took}
-use Rattle.nn_engine.specs.Output.{Printed, image_fault}
-use Rattle.nn_engine.specs.Run.{Unfinished, unread_line}
-use Rattle.nn_engine.specs.declared.device.InputFault.TheVariants.{ReadFailed, OutOfMemory}
-use Rattle.nn_engine.specs.declared.output.RunFault.{RunFault}
+use Rattle.nn_run.specs.Output.{Printed, image_fault}
+use Rattle.nn_run.specs.Run.{Unfinished, unread_line}
+use Rattle.nn_input.specs.declared.fault.InputFault.TheVariants.{ReadFailed, OutOfMemory}
+use Rattle.nn_run.specs.declared.output.RunFault.{RunFault}
 use Rattle.nn_live.specs.Live.{LiveSetup, ServiceState, stage_at_end, live_text, refused, so_far, exit_status, told_so_far}
 use Rattle.nn_live.specs.Opening.{IsOpening}
 use Rattle.nn_live.specs.Serving.{IsAtService, IsCutShort, IsPrefixOf}

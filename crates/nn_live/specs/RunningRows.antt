@@ -8,7 +8,7 @@ use Rattle.std.specs.Str.{is_utf8, chars}
 use Rattle.nn_bytes.specs.Lines.{line_feed}
 use lib.Utf8.{encode}
 use Rattle.nn_device.specs.Device.{Reader, Writer}
-use Rattle.nn_engine.specs.Output.{Printed}
+use Rattle.nn_run.specs.Output.{Printed}
 use Rattle.nn_live.specs.Live.{takes, takes_pieces, takes_torn, told_so_far}
 use Rattle.nn_live.specs.Running.{IsOfFailedRead, IsOfNoMemory, IsOfRefused, IsOfWhole, IsSoFar, IsToldAtOnce, IsUntaken, LacksEnd, WroteLive, WroteLivePrefix, asked_by, live_output, lines_say, serving_by, torn_of}
 use Rattle.nn_live.specs.Serving.{IsPrefixOf}

@@ -1,10 +1,10 @@
 -- A service that gets the lines of a run answers as the run does.
 use Rattle.std.specs.Prelude.{◌≡◌, ℕ, ◌+◌, Bool, true, false, List, [], ◌∷◌, ◌++◌, length, codes, decimal}
 use Rattle.std.specs.List.{list_all}
-use Rattle.nn_segment.specs.Lines.{joined_lines, is_unbroken}
+use Rattle.nn_bytes.specs.Pieces.{is_unbroken, joined_lines}
 use Rattle.nn_listing.specs.Summary.{line}
-use Rattle.nn_engine.specs.declared.engine.Options.{Options}
-use Rattle.nn_engine.specs.Output.{Printed, IsPrinted}
+use Rattle.nn_run.specs.declared.engine.Options.{Options}
+use Rattle.nn_run.specs.Output.{Printed, IsPrinted}
 use Rattle.nn_live.specs.Live.{LiveSetup, live_text, stage_at_end, exit_status}
 
 -- what a run is asked for with a service's settings: the tables, and nothing more

@@ -13,14 +13,15 @@ use Rattle.json.specs.Word.{word, after_number}
 use Rattle.serde_json.specs.Read.{number_of}
 use Rattle.nn_edits.specs.Reading.{edit_of_line, either_of_line, object_in, value_of, either_in, tx_in, op_in, op_of, txid_in, whole_in, number_in, path_in, profile_in, edit_in, block_in, items_in, blocks_in, report_in, dn_in, kind_in, kind_of}
 use Rattle.nn_segment.specs.LogEnd.{end_of_log, end_of_txs}
-use Rattle.nn_segment.specs.Lines.{reads_of, joined_lines, is_unbroken}
+use Rattle.nn_segment.specs.Lines.{reads_of}
+use Rattle.nn_bytes.specs.Pieces.{is_unbroken, joined_lines}
 use Rattle.nn_segment.specs.Name.{txids_of, segment_file_name, digits as name_digits}
 use Rattle.nn_segment.specs.Reading.{read_segment, fault_of_segment}
 use Rattle.nn_scenario.specs.Cut.{segments_from, parts_from}
 use Rattle.nn_scenario.specs.Scenario.{scenario_of, lines_from}
 use Rattle.nn_listing.specs.Tables.{datanodes}
-use Rattle.nn_engine.specs.Output.{Printed, output_of}
-use Rattle.nn_engine.specs.Start.{from_root}
+use Rattle.nn_run.specs.Output.{Printed, output_of}
+use Rattle.nn_run.specs.Start.{from_root}
 use Rattle.nn_live.specs.Live.{LiveSetup, live_text, takes, takes_all, takes_torn, takes_pieces}
 use Rattle.nn_live.specs.LiveRows.{asks, lines}
 use Rattle.nn_live.specs.SameRun.{tables_alone, then_promoted, IsServedAlike}

@@ -1,8 +1,8 @@
 -- A service and the bytes behind the last line feed.
 use Rattle.std.specs.Prelude.{◌≡◌, ◌<◌, ℕ, Bool, true, List, [], ◌∷◌, ◌++◌, flat_map, length, take}
-use Rattle.nn_segment.specs.Lines.{is_unbroken}
-use Rattle.nn_scenario.specs.Scenario.{is_blank}
-use Rattle.nn_live.specs.Live.{LiveSetup, ServiceState, Stage, ended, ends, pieces, serving, takes_pieces, takes_torn, written_of}
+use Rattle.nn_bytes.specs.Lines.{is_blank}
+use Rattle.nn_bytes.specs.Pieces.{is_unbroken, pieces}
+use Rattle.nn_live.specs.Live.{LiveSetup, ServiceState, Stage, ended, ends, serving, takes_pieces, takes_torn, written_of}
 use Rattle.nn_live.specs.Serving.{Service, BreaksAtEnd, IsAtService, IsCutShort, HasRunOut, RunsOutBehind}
 use Rattle.nn_types.specs.Limits.{max_line}
 

@@ -9,7 +9,8 @@ use Rattle.nn_model.specs.WellFormed.{Includes}
 use Rattle.nn_listing.specs.Summary.{line}
 use Rattle.nn_listing.specs.Trail.{history_text}
 use Rattle.nn_segment.specs.Fault.{number_of as segment_number_of}
-use Rattle.nn_segment.specs.Lines.{is_ended, is_unbroken}
+use Rattle.nn_segment.specs.Lines.{is_ended}
+use Rattle.nn_bytes.specs.Pieces.{is_unbroken}
 use Rattle.nn_segment.specs.Segment.{first_txid, last_txid}
 use Rattle.nn_segment.specs.declared.fault.SegmentFault.{SegmentFault}
 use Rattle.nn_scenario.specs.Cut.{EditLine}

@@ -1,7 +1,7 @@
 -- What holds of the words of every service, whatever lines came before.
 use Rattle.std.specs.Prelude.{◌≡◌, ◌≤◌, ◌⊎◌, ℕ, ◌+◌, true, false, List, ◌∷◌, ◌++◌, length, Option, Some, None, Err, codes, decimal}
 use Rattle.std.specs.List.{list_all}
-use Rattle.nn_bytes.specs.Lines.{line_feed}
+use Rattle.nn_bytes.specs.Lines.{is_blank, line_feed}
 use Rattle.nn_types.specs.declared.block.Block.{Block}
 use Rattle.nn_types.specs.declared.fault.TheConstants.{NOT_JSON}
 use Rattle.nn_types.specs.Limits.{max_line}
@@ -14,8 +14,7 @@ use Rattle.nn_model.specs.WellFormed.{Includes, HasWellFormedBlocks}
 use Rattle.nn_model.specs.declared.form.Form.{Form}
 use Rattle.nn_listing.specs.Listing.{path_json}
 use Rattle.nn_listing.specs.Summary.{line}
-use Rattle.nn_scenario.specs.Scenario.{is_blank}
-use Rattle.nn_segment.specs.Lines.{is_unbroken}
+use Rattle.nn_bytes.specs.Pieces.{is_unbroken}
 use Rattle.nn_live.specs.Answers.{block_head}
 use Rattle.nn_live.specs.Help.{unknown_text}
 use Rattle.nn_live.specs.Laws.{served}

@@ -1,7 +1,7 @@
 //! The edits of a segment that has not ended.
 ghost use Rattle.std.specs.Prelude.{◌≡◌, ◌≤◌, ◌<◌, ◌==◌, ◌+◌, ◌^◌, true, ◌++◌, ◌∷◌, [], List, Ok, Err, IfErr, IsErrOf, OnOk, MatchResult};
 ghost use Rattle.nn_edits.specs.Reading.{edit_of_line};
-ghost use Rattle.nn_segment.specs.Lines.{is_unbroken};
+ghost use Rattle.nn_bytes.specs.Pieces.{is_unbroken};
 ghost use Rattle.nn_segment.specs.Segment.{Segment, IsSegment};
 ghost use Rattle.nn_scenario.specs.Cut.{Part, no_lines, with_line, segment_of};
 ghost use Rattle.nn_scenario.specs.Reading.{Reading, with_edit_line};

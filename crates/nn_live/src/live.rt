@@ -2,7 +2,7 @@
 ghost use Rattle.std.specs.Prelude.{◌≡◌, ◌∷◌, ◌++◌, [], List, ℕ, true, IfErr, IsErrOf, OnOk, if◌then◌else◌, is_some};
 ghost use Rattle.nn_bytes.specs.Lines.{line_feed};
 ghost use Rattle.nn_device.specs.Page.{PutsPiece};
-ghost use Rattle.nn_segment.specs.Lines.{is_unbroken};
+ghost use Rattle.nn_bytes.specs.Pieces.{is_unbroken};
 ghost use Rattle.nn_live.specs.Live.{takes};
 ghost use Rattle.nn_live.specs.Serving.{Breaks, HasRunOut, FollowsStep};
 ghost use Rattle.nn_live.specs.Taking.{BreaksEnd, BreaksPush, EndsInput, HasTorn, Pushes, RunsOut, RunsOutAtEnd};

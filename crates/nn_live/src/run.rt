@@ -1,10 +1,10 @@
 //! A standby in service: from a reader's bytes to a writer's.
-ghost use Rattle.std.specs.Prelude.{◌≡◌, ◌<◌, ◌-◌, ◌^◌, ◌++◌, [], List, ℕ, false, IfOk, IfErr, OnErr, OnOk};
+ghost use Rattle.std.specs.Prelude.{◌≡◌, ◌<◌, ◌-◌, ◌^◌, ◌++◌, [], List, ℕ, false, length, IfOk, IfErr, OnErr, OnOk};
 ghost use Rattle.std.specs.Io.{ReadsAtMost};
 ghost use Rattle.std.specs.Io.KnownBytes.{ReadConsumes};
 ghost use Rattle.nn_device.specs.Device.{FailedToReadOn, GaveOn, Took, Writer as WriterView};
 ghost use Rattle.nn_device.specs.Page.{HasPut, PutsPiece};
-ghost use Rattle.nn_engine.specs.Run.{Unfinished};
+ghost use Rattle.nn_run.specs.Run.{Unfinished};
 ghost use Rattle.nn_live.specs.Live.{new_service, live_text};
 ghost use Rattle.nn_live.specs.Running.{Halts, IsEnd, IsHalt, IsOfLines, IsStage, LacksEnd, WroteLive, WroteLivePrefix, asked_by, halt_text, live_output, serving_by};
 ghost use Rattle.nn_live.specs.Serving.{IsAtService};
@@ -14,8 +14,8 @@ use crate::live::Live;
 use crate::opening::{Opened, Opening};
 use crate::service::{Service, ServiceFault};
 use nn_device::{Page, ReadFailed, Reader, Writer};
-use nn_engine::{InputFault, RunEnd, RunFault, new_buffer, put_image_fault, unread_line};
 use nn_image::ImageFault;
+use nn_run::{InputFault, RunEnd, RunFault, put_image_fault, unread_line};
 use nn_tree::Namespace;
 use nn_types::Settings;
 use std::alloc::{AllocError, Global};
@@ -141,6 +141,13 @@ fn serve<R: Read, W: Write>(
             return Ok(None);
         }
     }
+}
+
+// A buffer of so many bytes. The size is a parameter so that no proof has to look at the buffer's cells one by one.
+fn new_buffer(alloc: Global, size: usize) -> Result<Vec<u8>, AllocError>
+    ensures { IfOk result (λ v. length v.items ≡ size) }
+{
+    vec![in alloc; 0u8; size]
 }
 
 // The next bytes, for which it may wait for long. Nothing that was told is kept back then, and no write has failed: who serves

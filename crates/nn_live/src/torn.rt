@@ -1,11 +1,11 @@
 //! The bytes behind the last line feed.
 ghost use Rattle.std.specs.Prelude.{◌≡◌, ◌==◌, ◌++◌, [], List, ℕ, length, nat_lt, take, true, OnOk, IfErr};
-ghost use Rattle.nn_segment.specs.Lines.{is_unbroken};
+ghost use Rattle.nn_bytes.specs.Pieces.{is_unbroken};
 ghost use Rattle.nn_live.specs.Taking.{HasTorn};
 ghost use Rattle.nn_types.specs.Limits.{max_line};
 
 use crate::service::ServiceFault;
-use nn_scenario::is_blank;
+use nn_bytes::is_blank;
 use nn_types::limits::MAX_LINE_LEN;
 use std::alloc::Global;
 use std::marker::Model;
@@ -22,7 +22,7 @@ pub(crate) struct Torn {
 
 impl Model for Torn {
     ghost use Rattle.std.specs.Prelude.{◌≡◌, ◌≤◌, ◌+◌, true, length};
-    ghost use Rattle.nn_segment.specs.Lines.{is_unbroken};
+    ghost use Rattle.nn_bytes.specs.Pieces.{is_unbroken};
     ghost use Rattle.nn_types.specs.Limits.{max_line};
     ghost use Rattle.nn_live.specs.Taking.{Torn};
 

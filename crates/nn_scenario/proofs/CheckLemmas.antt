@@ -13,7 +13,8 @@ use Rattle.nn_types.specs.declared.edit.Edit.TheVariants as edit
 use Rattle.nn_types.specs.declared.profile.Profile.{Profile}
 use Rattle.nn_types.specs.declared.tx.Tx.{Tx}
 use Rattle.nn_model.specs.Apply.{fault_if, first_fault}
-use Rattle.nn_segment.specs.Lines.{lines_of, joined_lines, reads_of, is_ended, is_unbroken}
+use Rattle.nn_segment.specs.Lines.{lines_of, reads_of, is_ended}
+use Rattle.nn_bytes.specs.Pieces.{is_unbroken, joined_lines}
 use Rattle.nn_segment.specs.Name.{txids_of}
 use Rattle.nn_segment.specs.Reading.{later_fault, after_start, lines_fault, names_txids, bytes_checks, unless, read_segment}
 use Rattle.nn_segment.specs.Segment.{Segment, start_profile, is_start, is_end, allows, ends_once, last_txid}

@@ -16,7 +16,8 @@ use Rattle.nn_edits.proofs.LineGrammar.{either_line_ok, lawful_line}
 use Rattle.nn_model.specs.Lanes.{Lanes, no_messages, followed_by}
 use Rattle.nn_segment.specs.Segment.{is_end}
 use Rattle.nn_scenario.specs.Cut.{EditLine, Part, no_lines, with_line, parts_from, cut}
-use Rattle.nn_scenario.specs.Scenario.{ScenarioLine, edit, report, line_as, is_blank, and_later, with_read, lines_from, edit_lines, steps_from, steps_of}
+use Rattle.nn_scenario.specs.Scenario.{ScenarioLine, edit, report, line_as, and_later, with_read, lines_from, edit_lines, steps_from, steps_of}
+use Rattle.nn_bytes.specs.Lines.{is_blank}
 use Rattle.nn_scenario.specs.Scenario.{Scenario, scenario_lines, scenario_with, scenario_from, scenario_of, HasMessagesOf, IsLawfulScenario}
 use Rattle.nn_scenario.specs.Steps.{message_in_turn, lanes_of_steps, datanode_count, edit_count, IsStepOf}
 use Rattle.nn_scenario.specs.declared.scenario.ScenarioFault.{ScenarioFault}

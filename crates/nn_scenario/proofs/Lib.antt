@@ -3,5 +3,6 @@ pub mod StepLemmas
 pub mod LineLemmas
 pub mod LawfulLemmas
 pub mod SegmentLemmas
-pub mod ChunkLemmas
+pub mod ReadLemmas
+pub mod FollowLemmas
 pub mod CheckLemmas

@@ -1,9 +1,9 @@
 -- Lines, one after another.
 use Rattle.std.proofs.Common.{◌≡◌, ℕ, ◌+◌, List, [], ◌∷◌, ◌++◌, Bool, true, false, Result, Ok, Err, refl, sym, ap, ◌∙◌}
-use Rattle.std.proofs.Common.{append_assoc, append-nil, eqb, cond, ◌≤◌}
+use Rattle.std.proofs.Common.{append_assoc, append-nil, cond, ◌≤◌}
 use Rattle.std.specs.Bool.{MatchBool}
-use Rattle.std.specs.List.{slice_split}
-use Rattle.nn_bytes.specs.Lines.{line_feed}
+use Rattle.nn_bytes.specs.Lines.{is_blank}
+use Rattle.nn_bytes.specs.Pieces.{pieces}
 use Rattle.nn_types.specs.declared.report.Report.{Report}
 use Rattle.nn_edits.specs.Reading.{edit_of_line, either_of_line}
 use Rattle.nn_edits.specs.declared.fault.LineFault.{LineFault}
@@ -14,18 +14,15 @@ use Rattle.nn_edits.proofs.LineGrammar.{either_line_ok, edit_line_has}
 use Rattle.nn_model.specs.Lanes.{no_messages}
 use Rattle.nn_segment.specs.Segment.{is_end}
 use Rattle.nn_scenario.specs.Cut.{no_lines, with_line, last_part, parts_from}
-use Rattle.nn_scenario.specs.Scenario.{ScenarioLine, edit, report, line_as, is_blank, and_later, with_read, lines_from, edit_lines, steps_from}
+use Rattle.nn_scenario.specs.Scenario.{ScenarioLine, edit, report, line_as, and_later, with_read, lines_from, edit_lines, steps_from}
 use Rattle.nn_scenario.specs.Scenario.{scenario_with, scenario_from, scenario_of}
-use Rattle.nn_scenario.specs.Chunks.{and_lines, follow}
+use Rattle.nn_scenario.specs.Lines.{and_lines, follow}
 use Rattle.nn_scenario.specs.Reading.{Reading, nothing_read, followed_by_line, IsFollowed}
 use Rattle.nn_scenario.specs.Steps.{message_in_turn, lanes_of_steps, with_report}
 use Rattle.nn_scenario.specs.declared.scenario.ScenarioFault.{ScenarioFault}
 use Rattle.nn_scenario.specs.declared.steps.Step.{Step}
 use Rattle.nn_scenario.specs.declared.steps.Step.TheVariants as step
 use Rattle.nn_scenario.proofs.StepLemmas.{lanes_after_edit, lanes_after_message}
-
-abbrev pub pieces : List ℕ → List (List ℕ)
-pieces text = slice_split (λ b. eqb b line_feed) text
 
 -- a line that is an edit where both sorts stand together is that edit
 pub edit_alone : (line : List ℕ) (tx : Tx) → either_of_line line ≡ Ok (either.Edit tx) → edit_of_line line ≡ Ok tx

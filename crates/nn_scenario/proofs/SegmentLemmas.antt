@@ -2,13 +2,14 @@
 use Rattle.std.proofs.Common.{◌≡◌, ℕ, ◌+◌, ◌≤◌, List, [], ◌∷◌, ◌++◌, length, map, true, Some, max, None, Result, Ok, Err, refl, sym, ap, ◌∙◌, subst, append_assoc, append-nil, arith, length-append}
 use Rattle.std.specs.Prelude.{slice_get}
 use Rattle.std.proofs.lemmas.List.{map-append}
-use Rattle.std.specs.List.{All, list_all}
-use Rattle.std.proofs.lemmas.Bool.{and_parts}
+use Rattle.std.specs.List.{All}
 use Rattle.std.proofs.lemmas.List.Elements.{All-head, All-push, All-nil}
 use Rattle.nn_bytes.specs.Lines.{line_feed}
 use Rattle.nn_edits.specs.Reading.{edit_of_line}
 use Rattle.nn_types.specs.declared.tx.Tx.{Tx}
-use Rattle.nn_segment.specs.Lines.{joined_lines, reads_of, is_unbroken}
+use Rattle.nn_segment.specs.Lines.{reads_of}
+use Rattle.nn_bytes.specs.Pieces.{is_unbroken, joined_lines}
+use Rattle.nn_bytes.proofs.PieceLemmas.{each_more, joined_more}
 use Rattle.nn_segment.proofs.JoinedLines.{reads_joined}
 use Rattle.nn_segment.specs.Segment.{Segment, last_txid}
 use Rattle.nn_segment.specs.Name.{segment_file_name, txids_of}
@@ -81,23 +82,12 @@ read_back part h = ap reads_of h.joined ∙ reads_joined h.lines part.txs h.unbr
 pub none_read : AreRead no_lines
 none_read = record { lines = []; unbroken = refl; joined = refl; reads = refl; from_one = All-nil (λ (tx : Tx). 1 ≤ tx.txid) }
 
-joined-append : (lines : List (List ℕ)) (line : List ℕ) → joined_lines (lines ++ line ∷ []) ≡ joined_lines lines ++ (line ++ line_feed ∷ [])
-joined-append [] line = append-nil (line ++ line_feed ∷ [])
-joined-append (l ∷ lines) line =
-    ap (λ r. (l ++ line_feed ∷ []) ++ r) (joined-append lines line) ∙ sym (append_assoc (l ++ line_feed ∷ []) (joined_lines lines) (line ++ line_feed ∷ []))
-
-unbroken-append : (lines : List (List ℕ)) (line : List ℕ) → list_all is_unbroken lines ≡ true → is_unbroken line ≡ true → list_all is_unbroken (lines ++ line ∷ []) ≡ true
-unbroken-append [] line all one = rw one refl
-unbroken-append (l ∷ lines) line all one =
-    let both = and_parts (is_unbroken l) (list_all is_unbroken lines) all in
-    rw both.0 (unbroken-append lines line both.1 one)
-
 pub one_more_read : (part : Part) (text : List ℕ) (tx : Tx) → AreRead part → is_unbroken text ≡ true → edit_of_line text ≡ Ok tx → 1 ≤ tx.txid
     → AreRead (with_line part (record { text = text; tx = tx }))
 one_more_read part text tx h whole is from = record {
   lines = h.lines ++ text ∷ [];
-  unbroken = unbroken-append h.lines text h.unbroken whole;
-  joined = ap (λ bytes. bytes ++ text ++ line_feed ∷ []) h.joined ∙ append_assoc (joined_lines h.lines) text (line_feed ∷ []) ∙ sym (joined-append h.lines text);
+  unbroken = each_more h.lines text h.unbroken whole;
+  joined = ap (λ bytes. bytes ++ text ++ line_feed ∷ []) h.joined ∙ append_assoc (joined_lines h.lines) text (line_feed ∷ []) ∙ sym (joined_more h.lines text);
   reads = map-append edit_of_line h.lines (text ∷ []) ∙ (λ j. h.reads j ++ is j ∷ []) ∙ sym (map-append Ok part.txs (tx ∷ []));
   from_one = All-push (λ (t : Tx). 1 ≤ t.txid) part.txs tx h.from_one from;
 }

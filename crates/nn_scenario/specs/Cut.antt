@@ -4,7 +4,7 @@ use Rattle.std.specs.List.{All, list_all}
 use Rattle.nn_bytes.specs.Lines.{line_feed}
 use Rattle.nn_edits.specs.Reading.{edit_of_line}
 use Rattle.nn_types.specs.declared.tx.Tx.{Tx}
-use Rattle.nn_segment.specs.Lines.{joined_lines, is_unbroken}
+use Rattle.nn_bytes.specs.Pieces.{is_unbroken, joined_lines}
 use Rattle.nn_segment.specs.Name.{segment_file_name}
 use Rattle.nn_segment.specs.Reading.{read_segment}
 use Rattle.nn_segment.specs.Segment.{Segment, is_end, last_txid}

@@ -3,7 +3,8 @@ pub mod StepList
 pub mod Cut
 pub mod Scenario
 pub mod Reading
-pub mod Chunks
+pub mod Lines
+pub mod Follow
 pub mod Checking
 pub mod CheckingRows
 pub mod CutRows

@@ -6,7 +6,8 @@ use Rattle.nn_edits.specs.declared.line.Line.{Line}
 use Rattle.nn_types.specs.declared.report.Report.{Report}
 use Rattle.nn_segment.specs.Segment.{is_end}
 use Rattle.nn_scenario.specs.Cut.{EditLine, Part, no_lines, with_line}
-use Rattle.nn_scenario.specs.Scenario.{ScenarioLine, edit, report, is_blank, line_as}
+use Rattle.nn_scenario.specs.Scenario.{ScenarioLine, edit, report, line_as}
+use Rattle.nn_bytes.specs.Lines.{is_blank}
 use Rattle.nn_scenario.specs.Steps.{with_report}
 use Rattle.nn_scenario.specs.declared.steps.Step.{Step}
 use Rattle.nn_scenario.specs.declared.steps.Step.TheVariants as step

@@ -1,7 +1,8 @@
 -- A scenario's bytes as lines, the lines as edits and messages.
-use Rattle.std.specs.Prelude.{◌≡◌, ◌≤◌, ℕ, ◌+◌, ◌==◌, ◌||◌, List, [], ◌∷◌, length, flat_map, Bool, if◌then◌else◌, Result, Ok, Err}
-use Rattle.std.specs.List.{slice_split, list_all, All}
-use Rattle.nn_bytes.specs.Lines.{line_feed}
+use Rattle.std.specs.Prelude.{◌≡◌, ◌≤◌, ℕ, ◌+◌, ◌==◌, List, [], ◌∷◌, length, flat_map, if◌then◌else◌, Result, Ok, Err}
+use Rattle.std.specs.List.{All}
+use Rattle.nn_bytes.specs.Lines.{is_blank}
+use Rattle.nn_bytes.specs.Pieces.{pieces}
 use Rattle.nn_types.specs.declared.report.Message.{Message}
 use Rattle.nn_types.specs.declared.report.Report.{Report}
 use Rattle.nn_types.specs.Limits.{max_datanodes}
@@ -29,13 +30,6 @@ abbrev pub line_as : List ℕ → Line → ScenarioLine
 line_as text (either.Edit tx) = edit (record { text = text; tx = tx })
 line_as text (either.Report r) = report r
 
--- a space, a tab or a carriage return
-abbrev pub is_blank_byte : ℕ → Bool
-is_blank_byte b = b == 32 || b == 9 || b == 13
-
-abbrev pub is_blank : List ℕ → Bool
-is_blank line = list_all is_blank_byte line
-
 abbrev pub and_later : {X E : Type 0} → X → Result (List X) E → Result (List X) E
 and_later x (Ok xs) = Ok (x ∷ xs)
 and_later x (Err e) = Err e
@@ -51,7 +45,7 @@ lines_from n (text ∷ texts) = if is_blank text then lines_from (n + 1) texts e
 
 -- the lines of a text
 abbrev pub scenario_lines : List ℕ → Result (List ScenarioLine) ScenarioFault
-scenario_lines text = lines_from 1 (slice_split (λ b. b == line_feed) text)
+scenario_lines text = lines_from 1 (pieces text)
 
 -- ---- What the lines say.
 

@@ -2,7 +2,7 @@
 //! and no line is kept.
 ghost use Rattle.std.specs.Prelude.{◌≡◌, ◌≤◌, ◌<◌, ◌+◌, ◌^◌, ◌&&◌, ◌||◌, ◌==◌, ◌++◌, length, not, true, false, None, Ok};
 ghost use Rattle.nn_edits.specs.Reading.{edit_of_line};
-ghost use Rattle.nn_segment.specs.Lines.{is_unbroken};
+ghost use Rattle.nn_bytes.specs.Pieces.{is_unbroken};
 ghost use Rattle.nn_segment.specs.Segment.{start_profile, is_start, allows};
 ghost use Rattle.nn_scenario.specs.Checking.{first_line_fault, later_line_fault, or_fault, begun, gone_on, line_added, part_fault, or_bad, part_ended, line_checked, AreSegments, IsCheckOf};
 ghost use Rattle.nn_scenario.specs.Cut.{last_part};

@@ -5,6 +5,7 @@
 #![tactic(auto)]
 
 mod checking;
+mod follow;
 mod lines;
 mod scenario;
 mod segments;
@@ -12,7 +13,8 @@ mod step_list;
 mod steps;
 
 pub use checking::SegmentCheck;
-pub use lines::{LineSink, Lines, is_blank};
+pub use follow::{follow_lines, pass_to_end};
+pub use lines::LineSink;
 pub use nn_types::limits::MAX_INPUT;
 pub use scenario::{Reading, Scenario, ScenarioFault, read_lines, scenario_of};
 pub use segments::{Part, PartFault, read_segments};

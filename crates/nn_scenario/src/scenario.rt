@@ -1,18 +1,20 @@
 //! A scenario's bytes as the lines of segments and as steps: cut into lines, each line read.
 ghost use Rattle.std.specs.Prelude.{◌≡◌, ◌≢◌, ◌≤◌, ◌+◌, ◌++◌, true, List, ℕ, length, Ok, Err, IfOk, IfErr, OnOk};
 ghost use Rattle.nn_edits.specs.Reading.{edit_of_line};
-ghost use Rattle.nn_scenario.specs.Chunks.{IsScenarioOf, IsReadBy};
+ghost use Rattle.nn_scenario.specs.Lines.{IsScenarioOf, IsReadBy};
 ghost use Rattle.nn_scenario.specs.Cut.{last_part};
 ghost use Rattle.nn_scenario.specs.Scenario.{scenario_of, scenario_of_read, HasMessagesOf, IsLawfulScenario, scenario_with};
 ghost use Rattle.nn_scenario.specs.Reading.{Reading, nothing_read, with_edit_line};
-ghost use Rattle.nn_segment.specs.Lines.{is_unbroken};
+ghost use Rattle.nn_bytes.specs.Pieces.{is_unbroken};
 ghost use Rattle.nn_types.specs.Limits.{max_input};
 
-use crate::lines::{LineSink, Lines};
+use crate::follow::LineReader;
+use crate::lines::LineSink;
 use crate::segments::Part;
 use crate::step_list::StepList;
 use crate::steps::Steps;
-use nn_edits::{Line, LineFault, Scratch};
+use nn_bytes::{is_blank, line_end};
+use nn_edits::{Line, LineFault};
 use nn_segment::is_end;
 use nn_types::Tx;
 use std::alloc::{AllocError, Global};
@@ -49,13 +51,22 @@ pub fn read_lines(alloc: Global, input: &[u8]) -> Result<Scenario, ScenarioFault
     ensures lawful { IfOk result (λ s. IsLawfulScenario (scenario_of_read s)) }
     ensures bad { IfErr result (λ e. e.fault ≢ LineFault.OutOfMemory → scenario_of input.now ≡ Err e) }
 {
-    let Ok(reading) = Reading::new(alloc) else {
+    let Ok(mut reading) = Reading::new(alloc) else {
         return Err(no_memory(0));
     };
-    let mut lines = Lines::to(alloc, reading);
-    let mut scratch = Scratch::new(alloc);
-    lines.push(alloc, &mut scratch, input);
-    scenario_of(lines.end(alloc, &mut scratch))
+    let mut reader = LineReader::new(alloc);
+    let mut rest = input;
+    'lines: loop {
+        let end = line_end(rest);
+        let line = &rest[..end];
+        if let Err(bad) = reader.take(&mut reading, line, is_blank(line)) {
+            return Err(bad);
+        }
+        if end == rest.len() {
+            return scenario_of(Ok(reading));
+        }
+        rest = &rest[end + 1..];
+    }
 }
 
 /// The scenario of all lines, where none was refused.

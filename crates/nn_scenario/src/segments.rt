@@ -3,7 +3,7 @@ ghost use Rattle.std.specs.Prelude.{◌≡◌, ◌≢◌, ◌≤◌, ◌++◌, �
 ghost use Rattle.std.specs.List.{All};
 ghost use Rattle.nn_bytes.specs.Lines.{line_feed};
 ghost use Rattle.nn_edits.specs.Reading.{edit_of_line};
-ghost use Rattle.nn_segment.specs.Lines.{is_unbroken};
+ghost use Rattle.nn_bytes.specs.Pieces.{is_unbroken};
 ghost use Rattle.nn_segment.specs.Name.{segment_file_name};
 ghost use Rattle.nn_segment.specs.Outcome.{SegmentGives};
 ghost use Rattle.nn_scenario.specs.Cut.{no_lines, with_line, last_part, part_name, segment_of, segments_from};

@@ -5,7 +5,8 @@ use Rattle.std.proofs.lemmas.Bool.{and_parts, not-true}
 use Rattle.nn_bytes.specs.Lines.{line_feed}
 use Rattle.nn_edits.specs.Reading.{edit_of_line}
 use Rattle.nn_types.specs.declared.tx.Tx.{Tx}
-use Rattle.nn_segment.specs.Lines.{lines_of, joined_lines, is_unbroken, reads_of, JoinedAreCutBack}
+use Rattle.nn_segment.specs.Lines.{lines_of, reads_of, JoinedAreCutBack}
+use Rattle.nn_bytes.specs.Pieces.{is_unbroken, joined_lines}
 
 -- the first line of more
 cut : (line rest : List ℕ) → is_unbroken line ≡ true → lines_of (line ++ line_feed ∷ rest) ≡ line ∷ lines_of rest

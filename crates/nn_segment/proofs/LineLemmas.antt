@@ -1,5 +1,5 @@
 -- Lines, one after another.
-use Rattle.std.proofs.Common.{◌≡◌, ℕ, suc, ◌+◌, ◌-◌, ◌<◌, List, [], ◌∷◌, ◌++◌, length, map, take, drop, get_or, Bool, true, false, cond, not, eqb, Result, Ok, refl, sym, ap, ◌∙◌, arith, append_assoc, count_by, subst}
+use Rattle.std.proofs.Common.{◌≡◌, ℕ, suc, ◌+◌, ◌-◌, ◌<◌, List, [], ◌∷◌, ◌++◌, length, map, take, drop, get_or, Bool, true, false, cond, not, eqb, Result, Ok, refl, sym, ap, ◌∙◌, arith, append_assoc, count_by}
 use Rattle.std.proofs.lemmas.Bool.{eqb-true}
 use Rattle.std.proofs.lemmas.List.{map-append}
 use Rattle.std.proofs.lemmas.List.Sums.{sum_by-cons}
@@ -8,7 +8,7 @@ use Rattle.nn_bytes.specs.Lines.{line_feed}
 use Rattle.nn_edits.specs.Reading.{edit_of_line}
 use Rattle.nn_edits.specs.declared.fault.LineFault.{LineFault}
 use Rattle.nn_types.specs.declared.tx.Tx.{Tx}
-use Rattle.nn_segment.specs.Lines.{lines_of, is_ended, is_unbroken, reads_of}
+use Rattle.nn_segment.specs.Lines.{lines_of, is_ended, reads_of}
 
 abbrev pub ends : ℕ → Bool
 ends b = eqb b line_feed
@@ -97,19 +97,3 @@ some_bytes (b ∷ bytes) r is none = omega arith
 pub no_bytes : (bytes : List ℕ) (r : Bool) → r ≡ eqb (length bytes) 0 → r ≡ true → bytes ≡ []
 no_bytes [] r is none = refl
 no_bytes (b ∷ bytes) r is none = let e = eqb-true (suc (length bytes)) 0 (sym is ∙ none) in absurd (omega (arith, e))
-
--- no line feed stands in the first line
-pub first_unbroken : (text : List ℕ) → is_unbroken (take (position_or_len ends text) text) ≡ true
-first_unbroken [] = refl
-first_unbroken (b ∷ text) = at (ends b) refl (first_unbroken text)
-  where
-    at : (t : Bool) → ends b ≡ t → is_unbroken (take (position_or_len ends text) text) ≡ true
-        → is_unbroken (take (cond (not t) (1 + position_or_len ends text) 0) (b ∷ text)) ≡ true
-    at true e later = refl
-    at false e later =
-        let one : suc (position_or_len ends text) ≡ 1 + position_or_len ends text = omega arith in
-        subst (λ k. is_unbroken (take k (b ∷ text)) ≡ true) one (rw e later)
-
--- nor before a place where it ends
-pub unbroken_to : (text : List ℕ) (end : ℕ) → end ≡ position_or_len ends text → is_unbroken (take end text) ≡ true
-unbroken_to text end is = subst (λ n. is_unbroken (take n text) ≡ true) (sym is) (first_unbroken text)

@@ -1,23 +1,16 @@
 -- The lines of a segment's bytes.
-use Rattle.std.specs.Prelude.{◌≡◌, ℕ, ◌==◌, List, [], ◌∷◌, ◌++◌, Bool, true, false, not, if◌then◌else◌, Result, map}
-use Rattle.std.specs.List.{onto_first, flat_map, list_all}
+use Rattle.std.specs.Prelude.{◌≡◌, ℕ, ◌==◌, List, [], ◌∷◌, Bool, true, false, if◌then◌else◌, Result, map}
+use Rattle.std.specs.List.{onto_first, list_all}
 use Rattle.nn_edits.specs.declared.fault.LineFault.{LineFault}
 use Rattle.nn_types.specs.declared.tx.Tx.{Tx}
 use Rattle.nn_edits.specs.Reading.{edit_of_line}
 use Rattle.nn_bytes.specs.Lines.{line_feed}
+use Rattle.nn_bytes.specs.Pieces.{is_unbroken, joined_lines}
 
 -- the lines, each ended by a line feed, which the last may lack
 abbrev pub lines_of : List ℕ → List (List ℕ)
 lines_of [] = []
 lines_of (b ∷ bytes) = if b == line_feed then [] ∷ lines_of bytes else onto_first b (lines_of bytes)
-
--- the bytes of lines, with one line feed after each
-abbrev pub joined_lines : List (List ℕ) → List ℕ
-joined_lines lines = flat_map (λ line. line ++ line_feed ∷ []) lines
-
--- no byte of the line is a line feed
-abbrev pub is_unbroken : List ℕ → Bool
-is_unbroken line = list_all (λ b. not (b == line_feed)) line
 
 -- joined lines are cut back into the same lines
 abbrev pub JoinedAreCutBack : Type 0

@@ -10,6 +10,7 @@ use Rattle.nn_postponed.specs.Queues.{all_queued}
 use Rattle.nn_postponed.specs.Release.{must_wait}
 use Rattle.nn_replicas.specs.Table.{Replicas}
 use Rattle.nn_shadow.specs.declared.fault.Handed.{Handed}
+use Rattle.nn_shadow.specs.declared.intake.Intake.{Intake}
 use Rattle.nn_shadow.specs.Calls.{is_due_in, processing, waiting, due_now}
 use Rattle.nn_shadow.specs.Steps.{messages_taken, all_placed}
 use Rattle.nn_shadow.specs.Room.{all_given_back, item_blocks}
@@ -46,3 +47,10 @@ pub record LeavesItems (items : List Message) (h : History) (was : List Message)
   pub history : h_now ≡ h
   pub held : now ≡ was
   pub table : (t_now ≡ t) ⊎ ((count : ℕ) × (t_now ≡ all_given_back was (all_placed t (take count items)) (item_blocks items)))
+
+-- the same of the whole intake
+abbrev pub TakesIn : Namespace → List Message → Intake → Intake → Type 0
+TakesIn n items was now = TakesItems n items was.history.items was.held was.table now.history.items now.held now.table
+
+abbrev pub TakesNone : List Message → Intake → Intake → Type 0
+TakesNone items was now = LeavesItems items was.history.items was.held was.table now.history.items now.held now.table

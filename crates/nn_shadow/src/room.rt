@@ -3,6 +3,7 @@ ghost use Rattle.std.specs.Prelude.{◌≡◌, ◌≤◌, length, drop};
 ghost use Rattle.nn_tree.specs.Touched.{touched_of};
 ghost use Rattle.nn_shadow.specs.Room.{is_waited_for, given_back, all_given_back, item_blocks, processed_blocks, given_back_after};
 
+use crate::intake::Intake;
 use nn_postponed::Postponed;
 use nn_replicas::Replicas;
 use nn_tree::Touched;
@@ -28,21 +29,18 @@ pub(crate) fn give_back_items(table: &mut Replicas, held: &Postponed, items: &[M
     }
 }
 
-/// Does so for what an edit may have left: the blocks that it retired, and where it passed over ids the blocks of the items
-/// that it set free. Any other block that it touched has a row. The history tells the items, behind its first `before` events.
-pub(crate) fn give_back_touched(
-    table: &mut Replicas,
-    held: &Postponed,
-    touched: &Touched,
-    history: &[Event],
-    before: usize,
-)
-    requires { before ≤ length history.now }
-    ensures { table.new ≡ given_back_after held.now table.old (touched_of touched.now) (drop before history.now) }
-{
-    give_back_blocks(table, held, touched.retired.as_slice());
-    if touched.skipped.is_some() {
-        give_back_processed(table, held, &history[before..]);
+impl Intake {
+    /// Does so for what an edit may have left: the blocks that it retired, and where it passed over ids the blocks of the items
+    /// that it set free. Any other block that it touched has a row. The history tells the items, behind its first `before` events.
+    pub(crate) fn give_back_touched(&mut self, touched: &Touched, before: usize)
+        requires { before ≤ length self.old.history.items }
+        ensures { self.new ≡ record self.old { table = given_back_after self.old.held self.old.table (touched_of touched.now) (drop before self.old.history.items) } }
+    {
+        give_back_blocks(&mut self.table, &self.held, touched.retired.as_slice());
+        if touched.skipped.is_some() {
+            let events = &self.history.as_slice()[before..];
+            give_back_processed(&mut self.table, &self.held, events);
+        }
     }
 }
 

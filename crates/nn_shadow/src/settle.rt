@@ -14,6 +14,7 @@ ghost use Rattle.nn_shadow.specs.Touching.{IsQuiet, Rises};
 ghost use Rattle.nn_tree.specs.Touched.{touched_of};
 ghost use Rattle.nn_shadow.specs.Steps.{messages_taken, not_held, HavePlaces};
 
+use crate::intake::Intake;
 use crate::table::process;
 use crate::touching::next_touched;
 use nn_postponed::Postponed;
@@ -21,94 +22,83 @@ use nn_replicas::Replicas;
 use nn_tree::{Namespace, Touched};
 use nn_types::{BlockId, Cause, Event, Message, Status};
 
-/// Processes the held messages that are free, by ascending block id and then in the order of arrival, where they
-/// are free only about blocks that an edit touched.
-///
-/// It leaps from a block that the edit touched to the next one that messages are held about, and back: a leap takes
-/// O(log touched blocks + log held blocks), and there are no more of them than touched blocks, nor than twice the blocks
-/// that messages are held about. It takes no time where nothing is held or nothing was touched. What is free about a
-/// block is released one by one. `written` has the ids of the changed blocks, ascending, which come in file order
-/// themselves.
-pub(crate) fn settle(
-    namespace: &Namespace,
-    written: &[BlockId],
-    touched: &Touched,
-    history: &mut Vec<Event>,
-    held: &mut Postponed,
-    table: &mut Replicas,
-)
-    requires room { vec_len history.old + length held.old ≤ vec_capacity history.old }
-    requires placed { HavePlaces table.old held.old }
-    requires order { AreByBlock held.old }
-    requires written { (held.old ≡ []) ⊎ (written.now ≡ ascending (changed_ids (touched_of touched.now))) }
-    requires rises { Rises (touched_of touched.now).retired }
-    requires quiet { IsQuiet (touched_of touched.now) (is_due_in namespace.now) held.old }
-    ensures told { history.new.items ≡ history.old.items ++ map (processed Due) (freed (is_due_in namespace.now) [] held.old) }
-    ensures left { held.new ≡ still_waiting (is_due_in namespace.now) [] held.old }
-    ensures table { table.new ≡ messages_taken table.old (freed (is_due_in namespace.now) [] held.old) }
-{
-    let Some(mut from) = BlockId::new(0) else {
-        return;
-    };
-    if held.is_empty() {
-        return;
-    }
-    while let Some(block) = next_touched(written, touched, held, from) {
-        let Some(least) = held.next_held(block) else {
+impl Intake {
+    /// Processes the held messages that are free, by ascending block id and then in the order of arrival, where they
+    /// are free only about blocks that an edit touched.
+    ///
+    /// It leaps from a block that the edit touched to the next one that messages are held about, and back: a leap takes
+    /// O(log touched blocks + log held blocks), and there are no more of them than touched blocks, nor than twice the blocks
+    /// that messages are held about. It takes no time where nothing is held or nothing was touched. What is free about a
+    /// block is released one by one. `written` has the ids of the changed blocks, ascending, which come in file order
+    /// themselves.
+    pub(crate) fn settle(&mut self, namespace: &Namespace, written: &[BlockId], touched: &Touched)
+        requires room { vec_len self.old.history + length self.old.held ≤ vec_capacity self.old.history }
+        requires placed { HavePlaces self.old.table self.old.held }
+        requires order { AreByBlock self.old.held }
+        requires written { (self.old.held ≡ []) ⊎ (written.now ≡ ascending (changed_ids (touched_of touched.now))) }
+        requires rises { Rises (touched_of touched.now).retired }
+        requires quiet { IsQuiet (touched_of touched.now) (is_due_in namespace.now) self.old.held }
+        ensures told { self.new.history.items ≡ self.old.history.items ++ map (processed Due) (freed (is_due_in namespace.now) [] self.old.held) }
+        ensures left { self.new.held ≡ still_waiting (is_due_in namespace.now) [] self.old.held }
+        ensures table { self.new.table ≡ messages_taken self.old.table (freed (is_due_in namespace.now) [] self.old.held) }
+    {
+        let Some(mut from) = BlockId::new(0) else {
             return;
         };
-        if block < least {
-            from = least;
-            continue;
+        if self.held.is_empty() {
+            return;
         }
-        let status = namespace.status(block);
-        settle_block(block, &status, history, held, table);
-        let Some(next) = BlockId::new(block.get() + 1) else {
-            return;
-        };
-        from = next;
+        while let Some(block) = next_touched(written, touched, &self.held, from) {
+            let Some(least) = self.held.next_held(block) else {
+                return;
+            };
+            if block < least {
+                from = least;
+                continue;
+            }
+            let status = namespace.status(block);
+            self.settle_block(block, &status);
+            let Some(next) = BlockId::new(block.get() + 1) else {
+                return;
+            };
+            from = next;
+        }
     }
-}
 
-// Processes the messages about the block that are free.
-fn settle_block(
-    block: BlockId,
-    status: &Status,
-    history: &mut Vec<Event>,
-    held: &mut Postponed,
-    table: &mut Replicas,
-)
-    requires room { vec_len history.old + length held.old ≤ vec_capacity history.old }
-    requires placed { HavePlaces table.old held.old }
-    ensures done { first_free (due_at block status.now) [] held.new ≡ None }
-    ensures takes { TakesBlock block status.now history.old.items held.old history.new.items held.new }
-    ensures fills { FillsBlock block status.now table.old held.old table.new held.new }
-    ensures fewer { (p : Message → Bool) → list_any p held.old ≡ false → list_any p held.new ≡ false }
-    ensures others { LeavesOthers block held.old held.new }
-    ensures room { vec_len history.new + length held.new ≤ vec_capacity history.new }
-    ensures placed { HavePlaces table.new held.new }
-{
-    while let Some(m) = held.release(block, *status) {
-        let Ok(()) = history.push(processed(&m, Cause::Due)) else {
-            return;
-        };
-        process(table, &m);
+    // Processes the messages about the block that are free.
+    fn settle_block(&mut self, block: BlockId, status: &Status)
+        requires room { vec_len self.old.history + length self.old.held ≤ vec_capacity self.old.history }
+        requires placed { HavePlaces self.old.table self.old.held }
+        ensures done { first_free (due_at block status.now) [] self.new.held ≡ None }
+        ensures takes { TakesBlock block status.now self.old.history.items self.old.held self.new.history.items self.new.held }
+        ensures fills { FillsBlock block status.now self.old.table self.old.held self.new.table self.new.held }
+        ensures fewer { (p : Message → Bool) → list_any p self.old.held ≡ false → list_any p self.new.held ≡ false }
+        ensures others { LeavesOthers block self.old.held self.new.held }
+        ensures room { vec_len self.new.history + length self.new.held ≤ vec_capacity self.new.history }
+        ensures placed { HavePlaces self.new.table self.new.held }
+    {
+        while let Some(m) = self.held.release(block, *status) {
+            let Ok(()) = self.history.push(processed(&m, Cause::Due)) else {
+                return;
+            };
+            process(&mut self.table, &m);
+        }
     }
-}
 
-/// Processes all that is held, by ascending block id and then in the order of arrival.
-pub(crate) fn empty(history: &mut Vec<Event>, held: &mut Postponed, table: &mut Replicas)
-    requires room { vec_len history.old + length held.old ≤ vec_capacity history.old }
-    requires placed { HavePlaces table.old held.old }
-    ensures told { history.new.items ≡ history.old.items ++ map (processed Flush) held.old }
-    ensures left { held.new ≡ [] }
-    ensures table { table.new ≡ messages_taken table.old held.old }
-{
-    while let Some(m) = held.take_first() {
-        let Ok(()) = history.push(processed(&m, Cause::Flush)) else {
-            return;
-        };
-        process(table, &m);
+    /// Processes all that is held, by ascending block id and then in the order of arrival.
+    pub(crate) fn process_held(&mut self)
+        requires room { vec_len self.old.history + length self.old.held ≤ vec_capacity self.old.history }
+        requires placed { HavePlaces self.old.table self.old.held }
+        ensures told { self.new.history.items ≡ self.old.history.items ++ map (processed Flush) self.old.held }
+        ensures left { self.new.held ≡ [] }
+        ensures table { self.new.table ≡ messages_taken self.old.table self.old.held }
+    {
+        while let Some(m) = self.held.take_first() {
+            let Ok(()) = self.history.push(processed(&m, Cause::Flush)) else {
+                return;
+            };
+            process(&mut self.table, &m);
+        }
     }
 }
 

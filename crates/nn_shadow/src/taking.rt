@@ -8,7 +8,7 @@ ghost use Rattle.nn_model.specs.Status.{status_unheld};
 ghost use Rattle.nn_postponed.specs.Release.{must_wait};
 ghost use Rattle.nn_postponed.specs.Queues.{all_queued};
 ghost use Rattle.nn_shadow.specs.Calls.{is_due_in};
-ghost use Rattle.nn_shadow.specs.Items.{TakesItems, LeavesItems, free_of, stuck_of, handed_counts};
+ghost use Rattle.nn_shadow.specs.Items.{TakesIn, TakesNone, free_of, stuck_of, handed_counts};
 ghost use Rattle.nn_shadow.specs.Steps.{AreApart, messages_taken, all_placed, status_by_row};
 ghost use Rattle.nn_shadow.specs.Room.{taken_unless};
 ghost use Rattle.nn_replicas.specs.Agreement.{Shows};
@@ -17,115 +17,168 @@ ghost use Rattle.nn_replicas.specs.Calls.{pair_placed};
 
 use crate::fault::Handed;
 use crate::had::Had;
+use crate::intake::Intake;
 use crate::room::{give_back, give_back_items};
 use crate::settle::{process_due, processed};
 use crate::table::{place_all, process_by_row, process_without_row};
 use nn_postponed::Postponed;
 use nn_replicas::Replicas;
 use nn_tree::Namespace;
-use nn_types::{BlockId, Cause, Event, GenerationStamp, Kind, Message, Status, due};
+use nn_types::{BlockId, Cause, GenerationStamp, Kind, Message, Status, due};
 use std::alloc::{AllocError, Global};
 
-/// Takes in the items that a message adds, all or none.
-pub(crate) fn take_items(
-    namespace: &Namespace,
-    history: &mut Vec<Event>,
-    held: &mut Postponed,
-    table: &mut Replicas,
-    had: &mut Had,
-    m: &Message,
-) -> Result<Handed, AllocError>
-    requires shows { Shows namespace.now table.old }
-    requires blocks { HasWellFormedBlocks namespace.now }
-    requires number { 1 ≤ m.now.number }
-    ensures ok { OnOk result (TakesItems namespace.now (added had.old.having m.now) history.old.items held.old table.old history.new.items held.new table.new) }
-    ensures had { OnOk result (had.new.having ≡ record had.old.having { has = with_items had.old.having.has (added had.old.having m.now) }) }
-    ensures apart { OnOk result (AreApart (added had.old.having m.now)) }
-    ensures handed { IfOk result (λ handed. handed ≡ handed_counts namespace.now held.old (added had.old.having m.now)) }
-    ensures err { OnErr result (LeavesItems (added had.old.having m.now) history.old.items held.old table.old history.new.items held.new table.new) }
-    ensures had_err { OnErr result (had.new.having ≡ had.old.having) }
-{
-    match m.kind {
-        Kind::Begin => Ok(Handed {
-            processed: 0,
-            held: 0,
-        }),
-        Kind::Finish => revoke(namespace, history, held, table, had, m),
-        Kind::Listed => {
-            let item = Message {
-                kind: Kind::Received,
-                ..*m
-            };
-            take_item(namespace, history, held, table, had, &item)
-        }
-        Kind::Receiving | Kind::Received | Kind::Deleted => {
-            take_item(namespace, history, held, table, had, m)
+impl Intake {
+    /// Takes in the items that a message adds, all or none.
+    pub(crate) fn take_items(
+        &mut self,
+        namespace: &Namespace,
+        had: &mut Had,
+        m: &Message,
+    ) -> Result<Handed, AllocError>
+        requires shows { Shows namespace.now self.old.table }
+        requires blocks { HasWellFormedBlocks namespace.now }
+        requires number { 1 ≤ m.now.number }
+        ensures ok { OnOk result (TakesIn namespace.now (added had.old.having m.now) self.old self.new) }
+        ensures had { OnOk result (had.new.having ≡ record had.old.having { has = with_items had.old.having.has (added had.old.having m.now) }) }
+        ensures apart { OnOk result (AreApart (added had.old.having m.now)) }
+        ensures handed { IfOk result (λ handed. handed ≡ handed_counts namespace.now self.old.held (added had.old.having m.now)) }
+        ensures err { OnErr result (TakesNone (added had.old.having m.now) self.old self.new) }
+        ensures had_err { OnErr result (had.new.having ≡ had.old.having) }
+    {
+        match m.kind {
+            Kind::Begin => Ok(Handed {
+                processed: 0,
+                held: 0,
+            }),
+            Kind::Finish => self.revoke(namespace, had, m),
+            Kind::Listed => {
+                let item = Message {
+                    kind: Kind::Received,
+                    ..*m
+                };
+                self.take_item(namespace, had, &item)
+            }
+            Kind::Receiving | Kind::Received | Kind::Deleted => {
+                self.take_item(namespace, had, m)
+            }
         }
     }
-}
 
-// One item, and what its DataNode has.
-fn take_item(
-    namespace: &Namespace,
-    history: &mut Vec<Event>,
-    held: &mut Postponed,
-    table: &mut Replicas,
-    had: &mut Had,
-    item: &Message,
-) -> Result<Handed, AllocError>
-    requires shows { Shows namespace.now table.old }
-    requires blocks { HasWellFormedBlocks namespace.now }
-    requires number { 1 ≤ item.now.number }
-    ensures ok { OnOk result (TakesItems namespace.now (item.now ∷ []) history.old.items held.old table.old history.new.items held.new table.new) }
-    ensures had { OnOk result (had.new.having ≡ record had.old.having { has = with_items had.old.having.has (item.now ∷ []) }) }
-    ensures handed { IfOk result (λ handed. handed ≡ handed_counts namespace.now held.old (item.now ∷ [])) }
-    ensures err { OnErr result (LeavesItems (item.now ∷ []) history.old.items held.old table.old history.new.items held.new table.new) }
-    ensures had_err { OnErr result (had.new.having ≡ had.old.having) }
-{
-    let Ok(()) = had.reserve() else {
-        return Err(AllocError);
-    };
-    let Ok(handed) = process_or_hold(namespace, history, held, table, item) else {
-        return Err(AllocError);
-    };
-    had.note(item);
-    Ok(handed)
-}
-
-// Processes an item, or holds it where it has to wait.
-fn process_or_hold(
-    namespace: &Namespace,
-    history: &mut Vec<Event>,
-    held: &mut Postponed,
-    table: &mut Replicas,
-    item: &Message,
-) -> Result<Handed, AllocError>
-    requires shows { Shows namespace.now table.old }
-    requires blocks { HasWellFormedBlocks namespace.now }
-    ensures ok { OnOk result (TakesItems namespace.now (item.now ∷ []) history.old.items held.old table.old history.new.items held.new table.new) }
-    ensures handed { IfOk result (λ handed. handed ≡ handed_counts namespace.now held.old (item.now ∷ [])) }
-    ensures err { OnErr result (LeavesItems (item.now ∷ []) history.old.items held.old table.old history.new.items held.new table.new) }
-{
-    history.reserve(1)?;
-    // Its room in the table comes now: also where it is held, it is processed later without memory.
-    let Ok(waits) = place_or_process(namespace, held, table, item) else {
-        return Err(AllocError);
-    };
-    if waits {
-        let Ok(()) = held.hold(*item) else {
-            give_back(table, held, item.block);
+    // One item, and what its DataNode has.
+    fn take_item(
+        &mut self,
+        namespace: &Namespace,
+        had: &mut Had,
+        item: &Message,
+    ) -> Result<Handed, AllocError>
+        requires shows { Shows namespace.now self.old.table }
+        requires blocks { HasWellFormedBlocks namespace.now }
+        requires number { 1 ≤ item.now.number }
+        ensures ok { OnOk result (TakesIn namespace.now (item.now ∷ []) self.old self.new) }
+        ensures had { OnOk result (had.new.having ≡ record had.old.having { has = with_items had.old.having.has (item.now ∷ []) }) }
+        ensures handed { IfOk result (λ handed. handed ≡ handed_counts namespace.now self.old.held (item.now ∷ [])) }
+        ensures err { OnErr result (TakesNone (item.now ∷ []) self.old self.new) }
+        ensures had_err { OnErr result (had.new.having ≡ had.old.having) }
+    {
+        let Ok(()) = had.reserve() else {
             return Err(AllocError);
         };
-        return Ok(Handed {
-            processed: 0,
-            held: 1,
-        });
+        let Ok(handed) = self.process_or_hold(namespace, item) else {
+            return Err(AllocError);
+        };
+        had.note(item);
+        Ok(handed)
     }
-    history.push_reserved(processed(item, Cause::Due));
-    Ok(Handed {
-        processed: 1,
-        held: 0,
-    })
+
+    // Processes an item, or holds it where it has to wait.
+    fn process_or_hold(
+        &mut self,
+        namespace: &Namespace,
+        item: &Message,
+    ) -> Result<Handed, AllocError>
+        requires shows { Shows namespace.now self.old.table }
+        requires blocks { HasWellFormedBlocks namespace.now }
+        ensures ok { OnOk result (TakesIn namespace.now (item.now ∷ []) self.old self.new) }
+        ensures handed { IfOk result (λ handed. handed ≡ handed_counts namespace.now self.old.held (item.now ∷ [])) }
+        ensures err { OnErr result (TakesNone (item.now ∷ []) self.old self.new) }
+    {
+        self.history.reserve(1)?;
+        // Its room in the table comes now: also where it is held, it is processed later without memory.
+        let Ok(waits) = place_or_process(namespace, &self.held, &mut self.table, item) else {
+            return Err(AllocError);
+        };
+        if waits {
+            let Ok(()) = self.held.hold(*item) else {
+                give_back(&mut self.table, &self.held, item.block);
+                return Err(AllocError);
+            };
+            return Ok(Handed {
+                processed: 0,
+                held: 1,
+            });
+        }
+        self.history.push_reserved(processed(item, Cause::Due));
+        Ok(Handed {
+            processed: 1,
+            held: 0,
+        })
+    }
+
+    // The items of the end of a full report. Their room is given back behind them where nobody needs it.
+    fn revoke(
+        &mut self,
+        namespace: &Namespace,
+        had: &mut Had,
+        finish: &Message,
+    ) -> Result<Handed, AllocError>
+        ensures ok { OnOk result (TakesIn namespace.now (finished had.old.having.begun had.old.having.has finish.now) self.old self.new) }
+        ensures had { OnOk result (had.new.having ≡ record had.old.having { has = with_items had.old.having.has (finished had.old.having.begun had.old.having.has finish.now) }) }
+        ensures apart { OnOk result (AreApart (finished had.old.having.begun had.old.having.has finish.now)) }
+        ensures handed { IfOk result (λ handed. handed ≡ handed_counts namespace.now self.old.held (finished had.old.having.begun had.old.having.has finish.now)) }
+        ensures err { OnErr result (TakesNone (finished had.old.having.begun had.old.having.has finish.now) self.old self.new) }
+        ensures had_err { OnErr result (had.new.having ≡ had.old.having) }
+    {
+        let alloc = *self.history.allocator();
+        let Ok(gone) = had.left_out(alloc, finish) else {
+            return Err(AllocError);
+        };
+        let items = gone.as_slice();
+        let Ok(handed) = self.process_or_hold_all(namespace, items) else {
+            give_back_items(&mut self.table, &self.held, items);
+            return Err(AllocError);
+        };
+        give_back_items(&mut self.table, &self.held, items);
+        had.forget_left_out();
+        Ok(handed)
+    }
+
+    // Processes items about different blocks, and holds those that have to wait. These are held first, which takes memory last;
+    // then the others are processed.
+    fn process_or_hold_all(
+        &mut self,
+        namespace: &Namespace,
+        items: &[Message],
+    ) -> Result<Handed, AllocError>
+        requires apart { AreApart items.now }
+        ensures told { OnOk result (self.new.history.items ≡ self.old.history.items ++ map (processed Due) (free_of namespace.now self.old.held items.now)) }
+        ensures held { OnOk result (self.new.held ≡ all_queued self.old.held (stuck_of namespace.now self.old.held items.now)) }
+        ensures table { OnOk result (self.new.table ≡ messages_taken (all_placed self.old.table items.now) (free_of namespace.now self.old.held items.now)) }
+        ensures handed { IfOk result (λ handed. handed ≡ handed_counts namespace.now self.old.held items.now) }
+        ensures stays { OnErr result ((self.new.history.items ≡ self.old.history.items) × (self.new.held ≡ self.old.held)) }
+        ensures placed { OnErr result ((count : ℕ) × (self.new.table ≡ all_placed self.old.table (take count items.now))) }
+    {
+        let alloc = *self.history.allocator();
+        place_all(&mut self.table, items)?;
+        let waiting = waiting(namespace, &self.held, alloc, items)?;
+        let due = items.len() - waiting.len();
+        self.history.reserve(due)?;
+        self.held.hold_all(waiting.as_slice())?;
+        process_due(&mut self.history, &mut self.table, &self.held, items);
+        Ok(Handed {
+            processed: due,
+            held: waiting.len(),
+        })
+    }
 }
 
 // Makes room for an item in the table, and does there what it says unless it has to wait. Tells whether it has to. Room that
@@ -187,66 +240,6 @@ fn status_by_row(
         return namespace.unheld_status(block);
     };
     Status::Named(stamp)
-}
-
-// The items of the end of a full report. Their room is given back behind them where nobody needs it.
-fn revoke(
-    namespace: &Namespace,
-    history: &mut Vec<Event>,
-    held: &mut Postponed,
-    table: &mut Replicas,
-    had: &mut Had,
-    finish: &Message,
-) -> Result<Handed, AllocError>
-    ensures ok { OnOk result (TakesItems namespace.now (finished had.old.having.begun had.old.having.has finish.now) history.old.items held.old table.old history.new.items held.new table.new) }
-    ensures had { OnOk result (had.new.having ≡ record had.old.having { has = with_items had.old.having.has (finished had.old.having.begun had.old.having.has finish.now) }) }
-    ensures apart { OnOk result (AreApart (finished had.old.having.begun had.old.having.has finish.now)) }
-    ensures handed { IfOk result (λ handed. handed ≡ handed_counts namespace.now held.old (finished had.old.having.begun had.old.having.has finish.now)) }
-    ensures err { OnErr result (LeavesItems (finished had.old.having.begun had.old.having.has finish.now) history.old.items held.old table.old history.new.items held.new table.new) }
-    ensures had_err { OnErr result (had.new.having ≡ had.old.having) }
-{
-    let alloc = *history.allocator();
-    let Ok(gone) = had.left_out(alloc, finish) else {
-        return Err(AllocError);
-    };
-    let items = gone.as_slice();
-    let Ok(handed) = process_or_hold_all(namespace, history, held, table, items) else {
-        give_back_items(table, held, items);
-        return Err(AllocError);
-    };
-    give_back_items(table, held, items);
-    had.forget_left_out();
-    Ok(handed)
-}
-
-// Processes items about different blocks, and holds those that have to wait. These are held first, which takes memory last;
-// then the others are processed.
-fn process_or_hold_all(
-    namespace: &Namespace,
-    history: &mut Vec<Event>,
-    held: &mut Postponed,
-    table: &mut Replicas,
-    items: &[Message],
-) -> Result<Handed, AllocError>
-    requires apart { AreApart items.now }
-    ensures told { OnOk result (history.new.items ≡ history.old.items ++ map (processed Due) (free_of namespace.now held.old items.now)) }
-    ensures held { OnOk result (held.new ≡ all_queued held.old (stuck_of namespace.now held.old items.now)) }
-    ensures table { OnOk result (table.new ≡ messages_taken (all_placed table.old items.now) (free_of namespace.now held.old items.now)) }
-    ensures handed { IfOk result (λ handed. handed ≡ handed_counts namespace.now held.old items.now) }
-    ensures stays { OnErr result ((history.new.items ≡ history.old.items) × (held.new ≡ held.old)) }
-    ensures placed { OnErr result ((count : ℕ) × (table.new ≡ all_placed table.old (take count items.now))) }
-{
-    let alloc = *history.allocator();
-    place_all(table, items)?;
-    let waiting = waiting(namespace, held, alloc, items)?;
-    let due = items.len() - waiting.len();
-    history.reserve(due)?;
-    held.hold_all(waiting.as_slice())?;
-    process_due(history, table, held, items);
-    Ok(Handed {
-        processed: due,
-        held: waiting.len(),
-    })
 }
 
 // Whether the item has to wait: it is not due, or one of its DataNode about its block is held.

@@ -7,7 +7,7 @@
 use crate::tally::Tally;
 use nn_command::serve;
 use nn_device::{Reader, Writer};
-use nn_engine::Open;
+use nn_run::Open;
 use std::alloc::{AllocError, Global};
 use std::sync::{Arc, Wait};
 use std::thread::Threads;

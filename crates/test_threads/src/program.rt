@@ -2,8 +2,7 @@
 use crate::values::{Shared, push_edit};
 use nn_command::{ArgumentsFault, serve};
 use nn_device::{Reader, Writer};
-use nn_engine::{Gate, Open, Options, RunFault, ThreadOptions, run, run_threads};
-use nn_front::MAX_PASSED;
+use nn_run::{Gate, Open, Options, RunFault, ThreadOptions, run, run_threads};
 use nn_scenario::MAX_INPUT;
 use nn_types::Settings;
 use std::alloc::Global;
@@ -325,8 +324,8 @@ fn longest_prefix(rt: HostRuntime) {
     let mut options = usual_options();
     options.from_image = true;
     for (left, want) in [
-        (MAX_PASSED, "fault 61 image\n"),
-        (MAX_PASSED + 1, "fault 8\n"),
+        (MAX_INPUT, "fault 61 image\n"),
+        (MAX_INPUT + 1, "fault 8\n"),
         (usize::MAX, "fault 8\n"),
     ] {
         let (text, _) = printed(

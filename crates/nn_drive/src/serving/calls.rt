@@ -3,7 +3,7 @@ ghost use Rattle.std.specs.Prelude.{◌≡◌, ◌≤◌, [], false, length, rev
 ghost use Rattle.std.specs.List.{AllZip};
 ghost use Rattle.nn_feed.specs.Ends.{got_by, IsSameEnd};
 ghost use Rattle.nn_lane_standby.specs.Tailing.{has_begun, Standby};
-ghost use Rattle.nn_drive.specs.Driven.{HasReported, HaveReporters, NotDriven};
+ghost use Rattle.nn_drive.specs.Driven.{HasReported, IsPromised, HaveReporters, NotDriven};
 ghost use Rattle.nn_drive.specs.Feeding.{FailsOver};
 ghost use Rattle.nn_drive.specs.Refusals.{drive_refusal};
 ghost use Rattle.nn_drive.specs.Served.{HasLeft, ArePaired, AreStarted, PromotesOver, IsServed, ComesBack, IsUntouched, IsStopped, IsUnserved, IsRefusedAtStart};
@@ -12,16 +12,17 @@ ghost use Rattle.nn_drive.specs.declared.driving.DriveFault.{DriveFault as Why};
 
 use super::{Feeding, Left, Running, Served, Unfed, Unserved};
 use crate::bells::Bells;
+use crate::crew::ServiceCrew;
 use crate::driving::{DriveFault, WorkerExit, WorkerPromise, all_started, promote, refusal, work};
-use crate::feeding::{drop_feed, end_feed, start_feed_alone, told_fault};
+use crate::feeding::{drop_feed, end_feed, told_fault};
 use crate::operator::Operator;
 use crate::reporting::ReportSource;
-use crate::rotation::rotate;
-use nn_feed::{Bell, FeedEnd};
+use crate::rotation::Rotation;
+use nn_feed::FeedEnd;
 use nn_lane::{LaneEnd, Reporter, meet};
 use nn_lane_standby::{Active, Standby};
 use nn_segment::SegmentSource;
-use std::alloc::{AllocError, Global};
+use std::alloc::Global;
 use std::snapshot::Snapshot;
 use std::sync::{Arc, Wait};
 use std::thread;
@@ -48,79 +49,6 @@ impl<S: ReportSource + Drop> Running<S> {
     }
 }
 
-// One worker on a thread of its own, which no scope waits for.
-fn start_alone<
-    S: ReportSource + Send + Drop + 'static,
-    R: Threads + Wait + Copy + Send + Drop + 'static,
->(
-    rt: &R,
-    source: S,
-    reporter: Reporter,
-    bells: Arc<Bells, Global>,
-    worker: usize,
-) -> Option<PromisedHandle<WorkerExit<S>, WorkerPromise<S>>>
-    ensures { IfSome result (λ h. (h.promise.0.value ≡ source) × (h.promise.1.value ≡ reporter)) }
-{
-    let promise = WorkerPromise(Snapshot::of(&source), Snapshot::of(&reporter));
-    let own = *rt;
-    let run = move || -> WorkerExit<S>
-        ensures { HasReported S.gives source reporter result }
-    { work(&own, source, reporter, &bells, worker) };
-    thread::spawn_with(rt, promise, run).ok()
-}
-
-// A thread for each worker, the last one first; fewer where threads run out. The others stay, except for one whose thread
-// was refused: it is dropped.
-fn start_from_the_last<
-    S: ReportSource + Send + Drop + 'static,
-    R: Threads + Wait + Copy + Send + Drop + 'static,
->(
-    rt: &R,
-    workers: &mut Vec<(S, Reporter)>,
-    room: Vec<PromisedHandle<WorkerExit<S>, WorkerPromise<S>>>,
-    bells: &Arc<Bells, Global>,
-) -> Vec<PromisedHandle<WorkerExit<S>, WorkerPromise<S>>>
-    requires none { room.items ≡ [] }
-    requires room { length workers.old.items ≤ vec_capacity room }
-    ensures { AreStarted (reverse workers.old.items) result.items (reverse workers.new.items) }
-{
-    let mut handles = room;
-    while let Ok(own) = Arc::try_clone(bells) {
-        let Some((source, reporter)) = workers.pop() else {
-            return handles;
-        };
-        let worker = handles.len();
-        let Some(handle) = start_alone(rt, source, reporter, own, worker) else {
-            return handles;
-        };
-        handles.push_reserved(handle);
-    }
-    handles
-}
-
-// A thread for each worker, in order; fewer where memory or threads run out. The others stay, except for one whose thread
-// was refused: it is dropped.
-fn start_all_alone<
-    S: ReportSource + Send + Drop + 'static,
-    R: Threads + Wait + Copy + Send + Drop + 'static,
->(
-    rt: &R,
-    alloc: Global,
-    workers: &mut Vec<(S, Reporter)>,
-    bells: &Arc<Bells, Global>,
-) -> Vec<PromisedHandle<WorkerExit<S>, WorkerPromise<S>>>
-    ensures { AreStarted workers.old.items result.items workers.new.items }
-{
-    let Ok(room) = Vec::with_capacity(alloc, workers.len()) else {
-        return Vec::new(alloc);
-    };
-    // Turned round, the first one is taken from the end.
-    workers.reverse();
-    let handles = start_from_the_last(rt, workers, room, bells);
-    workers.reverse();
-    handles
-}
-
 // Each end with the handle of its reporter's thread.
 fn pair<S: ReportSource + Drop>(
     ends: Vec<LaneEnd>,
@@ -143,101 +71,165 @@ fn pair<S: ReportSource + Drop>(
     paired
 }
 
-// Steps of the standby over the end of a feed, up to its operator's request, and then its promotion. So many of the workers
-// run.
-fn serve_over<'a, O: Operator, R: Wait>(
-    rt: &R,
-    standby: &mut Standby,
-    end: &mut FeedEnd<'a, R>,
-    operator: &mut O,
-    bells: &Bells,
-    started: usize,
-    workers: usize,
-) -> Result<Active, DriveFault>
-    requires serving { has_begun standby.old ≡ false }
-    requires few { started ≤ workers }
-    ensures same { IsSameEnd end.old end.new }
-    ensures ok { IfOk result (λ active. PromotesOver O.asks workers standby.old end.old operator.old active standby.new end.new operator.new) }
-    ensures started { IfOk result (λ _. workers ≤ started) }
-    ensures err { IfErr result (λ fault. FailsOver standby.old end.old end.new fault) }
-    ensures back { IfErr result (λ _. ComesBack O.asks workers standby.old end.old operator.old standby.new end.new operator.new) }
-{
-    if !all_started(started, workers) {
-        return Err(DriveFault::OutOfMemory);
-    }
-    // No report waits for the log: a rotation has no more of it than its lanes allow.
-    if let Err(fault) = rotate(rt, standby, end, operator, bells, started, 0) {
-        return Err(told_fault(end, fault));
-    }
-    standby.close_intake();
-    bells.wake_all();
-    match promote(standby, end) {
-        Ok(active) => Ok(active),
-        Err(fault) => Err(told_fault(end, fault)),
+impl<'b, R: Wait> Rotation<'b, R> {
+    // Rotations of a standby with so many workers, over the end of a feed and up to its operator's request, and then its
+    // promotion.
+    fn serve_over<'a, O: Operator>(
+        &self,
+        standby: &mut Standby,
+        end: &mut FeedEnd<'a, R>,
+        operator: &mut O,
+        workers: usize,
+    ) -> Result<Active, DriveFault>
+        requires serving { has_begun standby.old ≡ false }
+        requires few { self.now.started ≤ workers }
+        ensures same { IsSameEnd end.old end.new }
+        ensures ok { IfOk result (λ active. PromotesOver O.asks workers standby.old end.old operator.old active standby.new end.new operator.new) }
+        ensures started { IfOk result (λ _. workers ≤ self.now.started) }
+        ensures err { IfErr result (λ fault. FailsOver standby.old end.old end.new fault) }
+        ensures back { IfErr result (λ _. ComesBack O.asks workers standby.old end.old operator.old standby.new end.new operator.new) }
+    {
+        if !all_started(self.started, workers) {
+            return Err(DriveFault::OutOfMemory);
+        }
+        if let Err(fault) = self.rotate(standby, end, operator) {
+            return Err(told_fault(end, fault));
+        }
+        standby.close_intake();
+        self.bells.wake_all();
+        match promote(standby, end) {
+            Ok(active) => Ok(active),
+            Err(fault) => Err(told_fault(end, fault)),
+        }
     }
 }
 
-// The rest of `serve`, once the source's thread runs. There is room for what comes back.
-fn serve_with<
+impl<
     'a,
-    O: Operator,
-    T: SegmentSource + Drop,
     S: ReportSource + Send + Drop + 'static,
     R: Threads + Wait + Copy + Send + Drop + 'static,
->(
-    rt: &'a R,
-    alloc: Global,
-    standby: Standby,
-    feeding: Feeding<'a, T, R>,
-    workers: Vec<(S, Reporter)>,
-    room: Vec<Running<S>>,
-    bells: &Arc<Bells, Global>,
-    operator: &mut O,
-) -> Result<Served<S>, Unserved<'a, T, S, R>>
-    requires serving { has_begun standby ≡ false }
-    requires lanes { HaveReporters workers.items standby.ends }
-    requires new { got_by feeding.end ≡ [] }
-    requires none { room.items ≡ [] }
-    requires room { length workers.items ≤ vec_capacity room }
-    ensures ok { IfOk result (λ r. IsServed O.asks T.gives T.failures standby feeding.entry.handle.promise.0.value workers.items operator.old operator.new r) }
-    ensures err { IfErr result (λ u. IsUnserved O.asks T.gives T.failures standby feeding.entry.handle.promise.0.value workers.items operator.old operator.new u) }
-{
-    let mut standby = standby;
-    let mut workers = workers;
-    let Feeding { mut end, handle } = feeding;
-    let count = workers.len();
-    let handles = start_all_alone(rt, alloc, &mut workers, bells);
-    let started = handles.len();
-    let active = match serve_over(rt, &mut standby, &mut end, operator, bells, started, count) {
-        Ok(active) => active,
-        Err(fault) => {
+> ServiceCrew<'a, S, R> {
+    // One worker on a thread of its own, which no scope waits for. It stands at this index among the workers.
+    fn start(
+        &self,
+        worker: (S, Reporter),
+        bells: Arc<Bells, Global>,
+        index: usize,
+    ) -> Option<PromisedHandle<WorkerExit<S>, WorkerPromise<S>>>
+        ensures { IfSome result (λ handle. IsPromised worker handle) }
+    {
+        let own = *self.rt;
+        let promise = WorkerPromise(Snapshot::of(&worker.0), Snapshot::of(&worker.1));
+        let run = move || -> WorkerExit<S>
+            ensures { HasReported S.gives worker.0 worker.1 result }
+        { work(&own, worker, &bells, index) };
+        thread::spawn_with(self.rt, promise, run).ok()
+    }
+
+    // A thread for each worker, the last one first; fewer where threads run out. The others stay, except for one whose thread
+    // was refused: it is dropped.
+    fn start_from_the_last(
+        &self,
+        workers: &mut Vec<(S, Reporter)>,
+        room: Vec<PromisedHandle<WorkerExit<S>, WorkerPromise<S>>>,
+    ) -> Vec<PromisedHandle<WorkerExit<S>, WorkerPromise<S>>>
+        requires none { room.items ≡ [] }
+        requires room { length workers.old.items ≤ vec_capacity room }
+        ensures { AreStarted (reverse workers.old.items) result.items (reverse workers.new.items) }
+    {
+        let mut handles = room;
+        while let Ok(own) = Arc::try_clone(&self.bells) {
+            let Some(worker) = workers.pop() else {
+                return handles;
+            };
+            let index = handles.len();
+            let Some(handle) = self.start(worker, own, index) else {
+                return handles;
+            };
+            handles.push_reserved(handle);
+        }
+        handles
+    }
+
+    // A thread for each worker, in order; fewer where memory or threads run out. The others stay, except for one whose thread
+    // was refused: it is dropped.
+    fn start_all(
+        &self,
+        workers: &mut Vec<(S, Reporter)>,
+    ) -> Vec<PromisedHandle<WorkerExit<S>, WorkerPromise<S>>>
+        ensures { AreStarted workers.old.items result.items workers.new.items }
+    {
+        let Ok(room) = Vec::with_capacity(self.alloc, workers.len()) else {
+            return Vec::new(self.alloc);
+        };
+        // Turned round, the first one is taken from the end.
+        workers.reverse();
+        let handles = self.start_from_the_last(workers, room);
+        workers.reverse();
+        handles
+    }
+
+    // The rest of `serve`, once the source's thread runs.
+    fn serve_with<O: Operator, T: SegmentSource + Drop>(
+        self,
+        standby: Standby,
+        feeding: Feeding<'a, T, R>,
+        workers: Vec<(S, Reporter)>,
+        operator: &mut O,
+    ) -> Result<Served<S>, Unserved<'a, T, S, R>>
+        requires serving { has_begun standby ≡ false }
+        requires lanes { HaveReporters workers.items standby.ends }
+        requires new { got_by feeding.end ≡ [] }
+        requires none { self.room.items ≡ [] }
+        requires room { length workers.items ≤ vec_capacity self.room }
+        ensures ok { IfOk result (λ r. IsServed O.asks T.gives T.failures standby feeding.entry.handle.promise.0.value workers.items
+            operator.old operator.new r) }
+        ensures err { IfErr result (λ u. IsUnserved O.asks T.gives T.failures standby feeding.entry.handle.promise.0.value workers.items
+            operator.old operator.new u) }
+    {
+        let mut standby = standby;
+        let mut workers = workers;
+        let Feeding { mut end, handle } = feeding;
+        let count = workers.len();
+        let handles = self.start_all(&mut workers);
+        // No report waits for the log: a rotation has no more of it than its lanes allow.
+        let rotation = Rotation {
+            rt: self.rt,
+            bells: &self.bells,
+            started: handles.len(),
+            ahead: 0,
+        };
+        let active = match rotation.serve_over(&mut standby, &mut end, operator, count) {
+            Ok(active) => active,
+            Err(fault) => {
+                return Err(Unserved {
+                    fault,
+                    standby,
+                    source: None,
+                    workers: handles,
+                    unstarted: workers,
+                    feeding: Some(Feeding { end, handle }),
+                });
+            }
+        };
+        if !end_feed(self.rt, end, handle) {
             return Err(Unserved {
-                fault,
+                fault: DriveFault::OutOfMemory,
                 standby,
                 source: None,
                 workers: handles,
                 unstarted: workers,
-                feeding: Some(Feeding { end, handle }),
+                feeding: None,
             });
         }
-    };
-    if !end_feed(rt, end, handle) {
-        return Err(Unserved {
-            fault: DriveFault::OutOfMemory,
-            standby,
-            source: None,
-            workers: handles,
-            unstarted: workers,
-            feeding: None,
-        });
+        let (shadow, ends) = standby.into_parts();
+        let workers = pair(ends, handles, self.room);
+        Ok(Served {
+            shadow,
+            active,
+            workers,
+        })
     }
-    let (shadow, ends) = standby.into_parts();
-    let workers = pair(ends, handles, room);
-    Ok(Served {
-        shadow,
-        active,
-        workers,
-    })
 }
 
 impl<'a, T: SegmentSource + Drop, S: ReportSource, R: Threads + Wait> Unserved<'a, T, S, R> {
@@ -290,7 +282,6 @@ impl<'a, T: SegmentSource + Drop, S: ReportSource, R: Threads + Wait> Unserved<'
 // A standby that was refused before any thread was started, with all that was handed in; the source is dropped if its own
 // thread was refused.
 fn refused<'a, T: SegmentSource, S: ReportSource, R: Wait>(
-    alloc: Global,
     standby: Standby,
     source: Option<T>,
     workers: Vec<(S, Reporter)>,
@@ -299,6 +290,7 @@ fn refused<'a, T: SegmentSource, S: ReportSource, R: Wait>(
     ensures fault { (result.fault ≡ fault) × (result.feeding ≡ None) × (result.source ≡ source) }
     ensures rest { IsUntouched standby workers.items result }
 {
+    let alloc = *workers.allocator();
     Unserved {
         fault,
         standby,
@@ -307,16 +299,6 @@ fn refused<'a, T: SegmentSource, S: ReportSource, R: Wait>(
         unstarted: workers,
         feeding: None,
     }
-}
-
-// The bells for so many workers, and the standby's, for its feed to ring.
-fn shared_bells(
-    alloc: Global,
-    count: usize,
-) -> Result<(Arc<Bells, Global>, Arc<Bell, Global>), AllocError> {
-    let bells = Bells::new(alloc, count)?;
-    let bell = bells.of_standby()?;
-    Ok((Arc::new(alloc, bells)?, bell))
 }
 
 /// Runs the source of segments and each worker on a thread of its own, and the standby on this one, until the operator
@@ -353,23 +335,18 @@ pub fn serve<
     ensures err { IfErr result (λ u. IsUnserved O.asks T.gives T.failures standby source workers.items operator.old operator.new u) }
 {
     if let Some(fault) = refusal(&standby) {
-        return Err(refused(alloc, standby, Some(source), workers, fault));
+        return Err(refused(standby, Some(source), workers, fault));
     }
-    let Ok(room) = Vec::with_capacity(alloc, workers.len()) else {
+    let Ok(service) = ServiceCrew::new(rt, alloc, workers.len()) else {
         let fault = DriveFault::OutOfMemory;
-        return Err(refused(alloc, standby, Some(source), workers, fault));
+        return Err(refused(standby, Some(source), workers, fault));
     };
-    // Before any thread is started, so that one which is refused has begun nothing.
-    let Ok((bells, bell)) = shared_bells(alloc, workers.len()) else {
-        let fault = DriveFault::OutOfMemory;
-        return Err(refused(alloc, standby, Some(source), workers, fault));
-    };
-    let feeding = match start_feed_alone(rt, alloc, source, bell) {
+    let feeding = match service.start_feed(source) {
         Ok(feeding) => feeding,
         Err(back) => {
             let fault = DriveFault::OutOfMemory;
-            return Err(refused(alloc, standby, back, workers, fault));
+            return Err(refused(standby, back, workers, fault));
         }
     };
-    serve_with(rt, alloc, standby, feeding, workers, room, &bells, operator)
+    service.serve_with(standby, feeding, workers, operator)
 }

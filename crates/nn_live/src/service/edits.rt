@@ -2,7 +2,7 @@
 ghost use Rattle.std.specs.Prelude.{◌≡◌, ◌≤◌, ◌^◌, ◌+◌, ◌++◌, ◌∷◌, [], true, List, ℕ, drop, max, Ok, IfOk, IfErr, IsErrOf, OnOk, is_none, ◌⊎◌};
 ghost use Rattle.nn_device.specs.Page.{PutsPiece};
 ghost use Rattle.nn_edits.specs.Reading.{edit_of_line};
-ghost use Rattle.nn_segment.specs.Lines.{is_unbroken};
+ghost use Rattle.nn_bytes.specs.Pieces.{is_unbroken};
 ghost use Rattle.nn_segment.specs.Segment.{Segment, IsSegment, first_txid};
 ghost use Rattle.nn_scenario.specs.Cut.{Part, no_lines};
 ghost use Rattle.nn_scenario.specs.Reading.{Reading};

@@ -2,8 +2,8 @@
 ghost use Rattle.std.specs.Prelude.{◌≡◌, List, ℕ, [], true, IfErr, IsErrOf, OnOk};
 ghost use Rattle.nn_device.specs.Page.{PutsPiece};
 ghost use Rattle.nn_edits.specs.Reading.{either_of_line};
-ghost use Rattle.nn_segment.specs.Lines.{is_unbroken};
-ghost use Rattle.nn_scenario.specs.Scenario.{is_blank};
+ghost use Rattle.nn_bytes.specs.Lines.{is_blank};
+ghost use Rattle.nn_bytes.specs.Pieces.{is_unbroken};
 ghost use Rattle.nn_live.specs.Live.{ends, takes, takes_read, takes_torn};
 ghost use Rattle.nn_live.specs.Serving.{BreaksAtEnd, BreaksOff, HasRunOut, IsAtEnd, FollowsStep, RunsOutBehind, ServiceSteps};
 ghost use Rattle.nn_live.specs.Taking.{IsLong};
@@ -11,9 +11,9 @@ ghost use Rattle.nn_live.specs.Taking.{IsLong};
 use super::{Service, ServiceFault};
 use crate::texts::put_fault;
 use crate::word::Word;
+use nn_bytes::is_blank;
 use nn_device::{Page, Writer};
 use nn_edits::{Line, LineFault, Scratch, read_line};
-use nn_scenario::is_blank;
 use nn_types::fault;
 use std::io::Write;
 

@@ -12,6 +12,7 @@ ghost use Rattle.nn_types.specs.Limits.{max_datanodes};
 use super::Shadow;
 use crate::fault::FromFault;
 use crate::had::Had;
+use crate::intake::Intake;
 use crate::starting::blank_table;
 use nn_postponed::Postponed;
 use nn_tree::Namespace;
@@ -52,9 +53,11 @@ impl Shadow {
         Ok(Shadow {
             namespace,
             last: txid,
-            history: Vec::new(alloc),
-            table,
-            held: Postponed::new(alloc),
+            intake: Intake {
+                history: Vec::new(alloc),
+                held: Postponed::new(alloc),
+                table,
+            },
             numbers,
             had,
             stopped: None,

@@ -5,11 +5,11 @@ use crate::calls::call::Call;
 use nn_device::{OutputFault, ReadFailed, WriteFailed};
 use nn_drive::DriveFault;
 use nn_edits::{LineFault, WriteFault};
-use nn_engine::{InputFault, RunFault, ScenarioInputFault};
 use nn_image::{ImageFault, RewriteFault, SaveFault};
 use nn_lane::Refusal;
 use nn_lane_standby::{PromoteFault, StepFault};
 use nn_postponed::HoldRefusal;
+use nn_run::{InputFault, RunFault};
 use nn_scenario::ScenarioFault;
 use nn_segment::{SegmentFault, SourceFault};
 use nn_shadow::{ApplyFault, FlushFault, HandCause, HandFault, Stop};
@@ -62,7 +62,7 @@ fn show_texts(call: &mut Call<'_>) {
         "RewriteFault" => rewrite_faults(call),
         "RunFault" => run_faults(call),
         "SaveFault" => save_faults(call),
-        "ScenarioInputFault" => scenario_input_faults(call),
+        "ScenarioFault" => scenario_fault(call),
         "SegmentFault" => segment_faults(call),
         "SourceFault" => source_faults(call),
         "StepFault" => step_faults(call),
@@ -300,13 +300,12 @@ fn output_faults(call: &mut Call<'_>) {
     }
 }
 
-fn scenario_input_faults(call: &mut Call<'_>) {
-    let line = ScenarioFault {
+fn scenario_fault(call: &mut Call<'_>) {
+    let fault = ScenarioFault {
         fault: LineFault::NotJson,
         line: 7,
     };
-    unnumbered(call, &ScenarioInputFault::Input(InputFault::ReadFailed));
-    unnumbered(call, &ScenarioInputFault::Line(line));
+    unnumbered(call, &fault);
 }
 
 fn input_faults(call: &mut Call<'_>) {

@@ -4,7 +4,7 @@ use crate::full_heap::lines::Lines;
 use crate::full_heap::scenario::EndFault;
 use crate::full_heap::trial::{Answer, Changing, Fate, change};
 use nn_device::{Reader, Writer};
-use nn_engine::{Options, run};
+use nn_run::{Options, run};
 use nn_types::Settings;
 use std::alloc::Global;
 use std::mem;

@@ -1,14 +1,51 @@
-use Rattle.std.proofs.Common.{[]}
+use Rattle.std.proofs.Common.{◌≡◌, ◌≤◌, ◌<◌, ◌+◌, ◌-◌, length, take, drop, ap, sym, subst, arith, length-drop}
+use Rattle.std.proofs.lemmas.List.{take_rest}
+use Rattle.nn_bytes.proofs.PieceLemmas.{unbroken_to}
+use Rattle.nn_types.specs.Limits.{max_input}
+use Rattle.nn_scenario.proofs.ReadLemmas.{GoesOn, last_one_read, line_text, none_read, one_not_read, one_read}
 use Rattle.nn_scenario.proofs.scenario.read_lines.Goals as goal
 
-pub returns-clause-ok : goal.returns-clause-ok
-returns-clause-ok c = (c.scenario_of.ensures c.in-Ok.reading c.args.input.now (c.end.ensures.read c.in-Ok.reading c.args.input.now (c.push.ensures.come c.in-Ok.reading [] c.to-lines.ensures.come))).ok
+pub lines-init : goal.lines-init
+lines-init c = record {
+  few = omega (arith, c.requires, c.new-reader.ensures);
+  count = (let none = ap (λ r. length r.steps) c.in-Ok.ensures in omega (arith, none));
+  on = none_read c.args.input.now c.new-reader.result c.in-Ok.reading c.new-reader.ensures c.in-Ok.ensures;
+}
 
-pub returns-clause-messages : goal.returns-clause-messages
-returns-clause-messages c = (c.scenario_of.ensures c.in-Ok.reading c.args.input.now (c.end.ensures.read c.in-Ok.reading c.args.input.now (c.push.ensures.come c.in-Ok.reading [] c.to-lines.ensures.come))).messages
+pub take-requires-clause-line : goal.take-requires-clause-line
+take-requires-clause-line c =
+    let rest = c.lines.rest.now in
+    let end = c.line_end-end.result in
+    (take end rest, unbroken_to rest end c.line_end-end.ensures.end, line_text (take end rest) c.is_blank.result c.is_blank.ensures)
 
-pub returns-clause-lawful : goal.returns-clause-lawful
-returns-clause-lawful c = (c.scenario_of.ensures c.in-Ok.reading c.args.input.now (c.end.ensures.read c.in-Ok.reading c.args.input.now (c.push.ensures.come c.in-Ok.reading [] c.to-lines.ensures.come))).lawful
+pub returns-in-Err-clause-bad : goal.returns-in-Err-clause-bad
+returns-in-Err-clause-bad c =
+    let rest = c.lines.rest.now in
+    let end = c.line_end-end.result in
+    one_not_read c.args.input.now rest c.lines.reader c.take.new.self c.lines.reading end c.line_end-end.ensures.end c.take.ensures.ended c.lines.invariant.on c.in-Err.bad
+    (c.in-Err.ensures.bad (take end rest) (line_text (take end rest) c.is_blank.result c.is_blank.ensures))
 
-pub returns-clause-bad : goal.returns-clause-bad
-returns-clause-bad c = (c.scenario_of.ensures c.in-Ok.reading c.args.input.now (c.end.ensures.read c.in-Ok.reading c.args.input.now (c.push.ensures.come c.in-Ok.reading [] c.to-lines.ensures.come))).bad
+pub returns-then-end-rest : goal.returns-then-end-rest
+returns-then-end-rest c =
+    let rest = c.lines.rest.now in
+    let end = c.line_end-end.result in
+    let hands = c.in_default-take.ensures.ok (take end rest) (line_text (take end rest) c.is_blank.result c.is_blank.ensures) in
+    let read =
+    last_one_read c.args.input.now rest c.lines.reader c.take.new.self c.lines.reading end c.line_end-end.ensures.end c.take.ensures.ended c.lines.invariant.on c.take.new.sink (omega (arith, c.if-end-rest.true)) hands in
+    let is = c.scenario_of.ensures c.take.new.sink c.args.input.now read in
+    record { ok = is.ok; messages = is.messages; lawful = is.lawful; bad = is.bad }
+
+pub lines-preserved : goal.lines-preserved
+lines-preserved c =
+    let rest = c.lines.rest.now in
+    let end = c.line_end-end.result in
+    let less : end < length rest = omega (arith, c.line_end-end.ensures.within, c.if-end-rest.false) in
+    let left : take (length rest - (end + 1)) (drop (end + 1) rest) ≡ drop (end + 1) rest = take_rest rest (end + 1) in
+    let hands = c.in_default-take.ensures.ok (take end rest) (line_text (take end rest) c.is_blank.result c.is_blank.ensures) in
+    record {
+      few = subst (λ r. c.take.new.self + length r ≤ max_input) (sym left) (omega (arith, length-drop (end + 1) rest, c.lines.invariant.few, c.take.ensures.ended, less));
+      count = c.take.ensures.count;
+      on = subst (GoesOn c.args.input.now c.take.new.self c.take.new.sink) (sym left)
+          (one_read c.args.input.now rest c.lines.reader c.take.new.self c.lines.reading end c.line_end-end.ensures.end c.take.ensures.ended c.lines.invariant.on c.take.new.sink less
+          (c.line_end-end.ensures.there less) hands);
+    }

@@ -1,6 +1,6 @@
 use Rattle.std.proofs.Common.{◌≡◌, subst}
-use Rattle.nn_scenario.specs.Chunks.{IsReadBy}
-use Rattle.nn_scenario.proofs.ChunkLemmas.{read_as}
+use Rattle.nn_scenario.specs.Lines.{IsReadBy}
+use Rattle.nn_scenario.proofs.ReadLemmas.{read_as}
 use Rattle.nn_scenario.proofs.scenario.scenario_of.Goals as goal
 
 pub returns-in-Ok : goal.returns-in-Ok

@@ -2,12 +2,12 @@ use Rattle.std.proofs.Common.{◌≡◌, arith, Err, ◌++◌, ◌∷◌, [], tr
 use Rattle.std.proofs.lemmas.Result.{IfOk-weaker, IfErr-weaker}
 use Rattle.nn_bytes.specs.Lines.{line_feed}
 use Rattle.nn_device.proofs.Pages.{puts_both, puts_nothing}
-use Rattle.nn_segment.specs.Lines.{is_unbroken}
+use Rattle.nn_bytes.proofs.PieceLemmas.{unbroken_to}
+use Rattle.nn_bytes.specs.Pieces.{is_unbroken}
 use Rattle.nn_live.specs.Taking.{Live, TakesBytes, Pushes}
 use Rattle.nn_live.proofs.BrokenPushes.{rest_untaken, then_line_broke}
 use Rattle.nn_live.proofs.Places.{not_memory, on_err}
 use Rattle.nn_live.proofs.Cutting.{prefix_cut, none_cut, kept, none_taken, some_came, then_pushes}
-use Rattle.nn_segment.proofs.LineLemmas.{unbroken_to}
 use Rattle.nn_live.proofs.live.Live.push.Goals as goal
 
 pub lines-init : goal.lines-init

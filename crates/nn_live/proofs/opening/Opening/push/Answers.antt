@@ -1,12 +1,12 @@
 use Rattle.std.proofs.Common.{◌≡◌, ◌++◌, ◌∷◌, [], true, false, refl, append-nil, append_assoc, sym, subst, ap, ◌∙◌}
 use Rattle.nn_bytes.specs.Lines.{line_feed}
 use Rattle.nn_image.specs.Loading.{TakesLine, ends_with}
-use Rattle.nn_segment.specs.Lines.{is_unbroken}
+use Rattle.nn_bytes.proofs.PieceLemmas.{unbroken_to}
+use Rattle.nn_bytes.specs.Pieces.{is_unbroken}
 use Rattle.nn_live.specs.Live.{so_far}
 use Rattle.nn_live.specs.Opening.{IsOpening, Opening, OpensTo}
 use Rattle.nn_live.proofs.Cutting.{prefix_cut, none_cut}
 use Rattle.nn_live.proofs.Opens.{line_bad, line_came_to, line_ends, line_kept, line_loads}
-use Rattle.nn_segment.proofs.LineLemmas.{unbroken_to}
 use Rattle.nn_live.proofs.opening.Opening.push.Goals as goal
 
 pub lines-init : goal.lines-init

@@ -1,5 +1,5 @@
 use Rattle.std.proofs.Common.{refl, subst}
-use Rattle.nn_engine.specs.Output.{image_fault}
+use Rattle.nn_run.specs.Output.{image_fault}
 use Rattle.nn_image.specs.declared.fault.ImageFault.TheVariants.{Truncated}
 use Rattle.nn_live.specs.Running.{IsStage}
 use Rattle.nn_live.specs.declared.run.EndFault.TheVariants as halt

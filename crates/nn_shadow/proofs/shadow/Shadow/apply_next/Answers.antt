@@ -7,7 +7,8 @@ use Rattle.nn_replicas.specs.Calls.{is_placed}
 use Rattle.nn_shadow.specs.Calls.{is_due_in, applied_to}
 use Rattle.nn_shadow.specs.Contents.{Shadow, standby_of, IsConsistent, Becomes}
 use Rattle.nn_shadow.specs.Refusals.{turn_refusal}
-use Rattle.nn_shadow.proofs.Consistent.{Leaves, left_consistent, edit_applied, edit_failed, edit_room}
+use Rattle.nn_shadow.specs.declared.intake.Intake.{Intake}
+use Rattle.nn_shadow.proofs.Consistent.{Leaves, with_intake, left_consistent, edit_applied, edit_failed, edit_room}
 use Rattle.nn_shadow.proofs.Sound.{sound_of}
 use Rattle.nn_model.specs.Namespace.{Namespace}
 use Rattle.nn_model.specs.Apply.{effect}
@@ -44,39 +45,29 @@ settle-requires-clause-placed c =
     λ m here. ap (λ t. is_placed t m.dn m.block) c.in-Ok-change.ensures.table
     ∙ edit_room (the_view c.self.inside) c.args.tx.now (sound_of c.self.invariant) c.in-Ok-change.ensures.lawful c.in-Ok-change.ensures.applies m here
 
-made : (c : goal.After-drop-written-2) → Leaves (the_view c.self.inside) (applied_to (standby_of (the_view c.self.inside)) c.args.tx.now)
-    (record (the_view c.self.inside) {
-      namespace = c.change.new.namespace;
-      last = c.get-self-inside.result;
-      history = c.settle.new.history.items;
-      table = c.give_back_touched.new.table;
-      held = c.settle.new.held;
-    })
+-- the standby with the edit made
+abbrev after : goal.After-drop-written-2 → Intake → Shadow
+after c i = record (with_intake (the_view c.self.inside) i) { namespace = c.change.new.namespace; last = c.get-self-inside.result }
+
+made : (c : goal.After-drop-written-2) → Leaves (the_view c.self.inside) (applied_to (standby_of (the_view c.self.inside)) c.args.tx.now) (after c c.give_back_touched.new.self)
 made c =
-    edit_applied (the_view c.self.inside) c.args.tx.now c.change.new.namespace c.get-self-inside.result c.push.new.self.items
-    c.settle.new.history.items c.change.new.table c.settle.new.table c.give_back_touched.new.table c.settle.new.held c.self.invariant c.in-Ok-change.ensures.lawful
+    subst (λ (i : Intake). Leaves (the_view c.self.inside) (applied_to (standby_of (the_view c.self.inside)) c.args.tx.now) (after c i)) (sym c.give_back_touched.ensures)
+    (edit_applied (the_view c.self.inside) c.args.tx.now c.change.new.namespace c.get-self-inside.result c.push.new.self.items
+    c.settle.new.self.history.items c.change.new.table c.settle.new.self.table _ c.settle.new.self.held c.self.invariant c.in-Ok-change.ensures.lawful
     (fits_if (the_view c.self.inside).phase (standby_of (the_view c.self.inside)) c.args.tx.now
     (subst (λ (x : Shadow). turn_refusal x.phase (standby_of x) c.args.tx.now ≡ None) (sym c.self.view_is) c.requires) c.in-Ok-change.ensures.applies)
     c.get-self-inside.ensures.limit c.in-Ok-change.ensures.namespace c.get-self-inside.ensures.value
     (c.in-Ok-push.ensures.items ∙ ap (λ h. h ++ Applied c.args.tx.now.txid ∷ []) c.in-Ok.ensures.items)
     c.in-Ok-change.ensures.table c.settle.ensures.told c.settle.ensures.left c.settle.ensures.table
-    (c.give_back_touched.ensures ∙ (λ j. given_back_after c.settle.new.held c.settle.new.table (c.in-Ok-change.ensures.touched j)
-    (((λ k. drop ((c.len-before.ensures ∙ c.push.new.self.ok.0) k) ((c.as_slice-2.ensures.value ∙ c.settle.ensures.told) k)) ∙ drop-append_seam c.push.new.self.items _) j)))
+    (λ j. given_back_after c.settle.new.self.held c.settle.new.self.table (c.in-Ok-change.ensures.touched j)
+    (((λ k. drop ((c.len-before.ensures ∙ c.push.new.self.ok.0) k) (c.settle.ensures.told k)) ∙ drop-append_seam c.push.new.self.items _) j)))
 
 pub invariant_of-self-2 : goal.invariant_of-self-2
 invariant_of-self-2 c = left_consistent (made c)
 
 pub returns-clause-ok : goal.returns-clause-ok
 returns-clause-ok c =
-    subst (λ (x : Shadow). Becomes x (applied_to (standby_of x) c.args.tx.now)
-    (record (the_view c.self.inside) {
-      namespace = c.change.new.namespace;
-      last = c.get-self-inside.result;
-      history = c.settle.new.history.items;
-      table = c.give_back_touched.new.table;
-      held = c.settle.new.held;
-    }))
-    c.self.view_is (made c).becomes
+    subst (λ (x : Shadow). Becomes x (applied_to (standby_of x) c.args.tx.now) (after c c.give_back_touched.new.self)) c.self.view_is (made c).becomes
 
 pub settle-requires-clause-written : goal.settle-requires-clause-written
 settle-requires-clause-written c =

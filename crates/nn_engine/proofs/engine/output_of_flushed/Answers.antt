@@ -1,5 +1,0 @@
-use Rattle.nn_engine.proofs.TellLemmas.{listed_told}
-use Rattle.nn_engine.proofs.engine.output_of_flushed.Goals as goal
-
-pub returns : goal.returns
-returns c = λ options lanes flushed. listed_told options c.args.shadow lanes c.recall_invariant.ensures flushed

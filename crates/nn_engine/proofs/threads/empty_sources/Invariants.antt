@@ -1,6 +1,0 @@
-use Rattle.std.specs.Prelude.{◌≡◌, List, [], replicate}
-use Rattle.nn_types.specs.declared.report.Report.{Report}
-use Rattle.nn_engine.proofs.threads.empty_sources.Given as goal
-
-abbrev pub invariant-loop-worker : goal.invariant-loop-worker
-invariant-loop-worker g l = l.sources.items ≡ replicate {A = List Report} l.worker []

@@ -1,6 +1,0 @@
-//! The front of an input that goes on from an image: what is passed over, and the image itself.
-#![tactic(auto)]
-
-mod front;
-
-pub use front::{Front, FrontFault, Loaded, MAX_PASSED};

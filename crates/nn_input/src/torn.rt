@@ -1,0 +1,79 @@
+//! The bytes behind the last line feed.
+ghost use Rattle.std.specs.Prelude.{◌≡◌, ◌<◌, ◌-◌, ◌^◌, ◌++◌, [], List, ℕ, length, take, OnOk};
+ghost use Rattle.nn_input.specs.Cut.{KeepsFirst, no_bytes};
+
+use nn_bytes::is_blank;
+use std::alloc::{AllocError, Global};
+use std::marker::Model;
+
+/// Of the bytes behind the last line feed the first ones, and whether all are blank.
+#[derive(Debug, Drop)]
+pub(crate) struct TornBytes {
+    kept: Vec<u8>,
+    blank: bool,
+}
+
+impl Model for TornBytes {
+    ghost use Rattle.nn_input.specs.Cut.{TornBytes};
+
+    ghost Value = { TornBytes };
+
+    ghost view = { λ t. record { kept = t.kept.items; blank = t.blank } };
+}
+
+impl TornBytes {
+    /// No bytes. Takes no memory.
+    pub(crate) fn none(alloc: Global) -> TornBytes
+        ensures { result ≡ no_bytes }
+    {
+        TornBytes {
+            kept: Vec::new(alloc),
+            blank: true,
+        }
+    }
+
+    /// Those that are kept.
+    pub(crate) fn as_slice(&self) -> &[u8]
+        ensures kept { result.now ≡ self.now.kept }
+        ensures fits { length result.now < 2 ^ 63 }
+    {
+        &self.kept
+    }
+
+    /// Whether all of the bytes are blank, also those that are not kept.
+    pub(crate) fn is_blank(&self) -> bool
+        ensures { result ≡ self.now.blank }
+    {
+        self.blank
+    }
+
+    /// Adds more, of which so many bytes in all are kept.
+    pub(crate) fn push(&mut self, bytes: &[u8], most: usize) -> Result<(), AllocError>
+        ensures { OnOk result ((torn : List ℕ) → KeepsFirst most torn self.old → KeepsFirst most (torn ++ bytes.now) self.new) }
+    {
+        let room = most.saturating_sub(self.kept.len());
+        if let Err(_) = self.kept.extend_from_slice(prefix(bytes, room)) {
+            return Err(AllocError);
+        }
+        self.blank &= is_blank(bytes);
+        Ok(())
+    }
+
+    /// Lets them go.
+    pub(crate) fn clear(&mut self)
+        ensures { self.new ≡ no_bytes }
+    {
+        self.kept.clear();
+        self.blank = true;
+    }
+}
+
+// At most so many of these bytes.
+fn prefix(bytes: &[u8], most: usize) -> &[u8]
+    ensures { result.now ≡ take most bytes.now }
+{
+    if most >= bytes.len() {
+        return bytes;
+    }
+    &bytes[..most]
+}

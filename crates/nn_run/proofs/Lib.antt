@@ -1,0 +1,14 @@
+pub mod Walks
+pub mod FollowerLemmas
+pub mod LiveLemmas
+pub mod EndLemmas
+pub mod RunLemmas
+pub mod TurnLemmas
+pub mod ToldLemmas
+pub mod TellLemmas
+pub mod WriteLemmas
+pub mod InMemoryLemmas
+pub mod DrivenLemmas
+pub mod InputLemmas
+pub mod CheckpointLemmas
+pub mod StartLemmas

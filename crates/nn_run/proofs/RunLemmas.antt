@@ -1,0 +1,48 @@
+-- What the lines of a text came to is what is printed for it.
+use Rattle.std.proofs.Common.{◌≡◌, ◌≢◌, ℕ, false, List, Ok, Err, codes, ◌∙◌, subst}
+use Rattle.nn_types.specs.declared.tx.Tx.{Tx}
+use Rattle.nn_edits.specs.Fault.{number_of as line_number_of}
+use Rattle.nn_edits.specs.declared.fault.LineFault.TheVariants.{OutOfMemory}
+use Rattle.nn_model.specs.History.{History}
+use Rattle.nn_model.specs.Lanes.{Lanes}
+use Rattle.nn_model.specs.Namespace.{Namespace}
+use Rattle.nn_segment.specs.Fault.{number_of as segment_number_of}
+use Rattle.nn_segment.specs.LogEnd.{stop_number}
+use Rattle.nn_shadow.specs.Calls.{with_past, flushed}
+use Rattle.nn_shadow.specs.Contents.{Shadow, standby_of}
+use Rattle.nn_shadow.specs.Laws.{StandsBy}
+use Rattle.nn_scenario.specs.declared.scenario.ScenarioFault.{ScenarioFault}
+use Rattle.nn_scenario.specs.declared.segments.PartFault.{PartFault}
+use Rattle.nn_run.specs.declared.engine.Options.{Options}
+use Rattle.nn_run.specs.declared.follower.LogFault.{LogFault}
+use Rattle.nn_run.specs.declared.following.BadInput.TheVariants as halt
+use Rattle.nn_run.specs.Following.{Lived, LinesComeTo, HasArrived, Stops, stop_of}
+use Rattle.nn_run.specs.Output.{Printed, IsPrintedFrom, after_log, fault_at, with_history}
+use Rattle.nn_run.specs.Ends.{BeginsAt}
+use Rattle.nn_run.specs.Shown.{with_settings}
+use Rattle.nn_run.specs.Start.{Start}
+use Rattle.nn_run.proofs.ToldLemmas.{printed_of_bad, printed_of_told, told_bad_segment, told_in_turn, told_stop}
+
+module _ (options : Options) (at : Start) (text : List ℕ) (first : Lived) (begins : BeginsAt options at first) (p : Printed) where
+  pub printed_of_standby : (x : Shadow) → LinesComeTo first text (Ok x)
+      → ((past : History) (start : Namespace) (base : ℕ) (txs : List Tx) (lanes : Lanes) → StandsBy start base txs lanes (with_past past (standby_of x))
+      → p ≡ with_history options.history (flushed (standby_of x)).history (after_log (with_settings options x.permille x.table.min) lanes (Ok (record { last = x.last; namespace = x.namespace }))))
+      → IsPrintedFrom at false options text p
+  printed_of_standby x h told =
+      let scenario = h.0.0 in
+      let arrived : HasArrived at options.history scenario x =
+      subst (λ b. HasArrived at b scenario x) begins.history (subst (λ s. HasArrived s first.history scenario x) begins.at h.0.2) in
+      printed_of_told at false options text scenario p h.0.1
+      (told_in_turn at options scenario x p arrived (h.1.min ∙ begins.min, h.1.permille ∙ begins.permille) told)
+
+  pub printed_of_line : (bad : ScenarioFault) → LinesComeTo first text (Err (halt.Line bad)) → (bad.fault ≢ OutOfMemory) × (p ≡ fault_at (codes " line ") (line_number_of bad.fault) bad.line)
+      → IsPrintedFrom at false options text p
+  printed_of_line bad h told = printed_of_bad at false options text bad p (h told.0) told.1
+
+  pub printed_of_segment : (bad : PartFault) → LinesComeTo first text (Err (halt.Segment bad)) → p ≡ fault_at (codes " segment ") (segment_number_of bad.fault) bad.segment
+      → IsPrintedFrom at false options text p
+  printed_of_segment bad h told = printed_of_told at false options text h.0 p h.1 (told_bad_segment at options h.0 bad p h.2 told)
+
+  pub printed_of_stop : (fault : LogFault) → LinesComeTo first text (Err (halt.Log fault)) → p ≡ fault_at (codes " txid ") (stop_number (stop_of fault).cause) (stop_of fault).txid
+      → IsPrintedFrom at false options text p
+  printed_of_stop fault h told = printed_of_told at false options text h.0 p h.1 (told_stop at options h.0 fault p (subst (λ s. Stops s h.0 fault) begins.at h.2) told)

@@ -1,0 +1,5 @@
+use Rattle.nn_run.proofs.TellLemmas.{listed_told}
+use Rattle.nn_run.proofs.engine.output_of_flushed.Goals as goal
+
+pub returns : goal.returns
+returns c = λ options lanes flushed. listed_told options c.args.shadow lanes c.recall_invariant.ensures flushed

@@ -1,0 +1,16 @@
+use Rattle.std.proofs.Common.{◌+◌, ◌≤◌, length}
+use Rattle.nn_input.specs.Cut.{ahead}
+use Rattle.nn_types.specs.Limits.{max_input}
+use Rattle.nn_scenario.specs.Follow.{LinesReadOn}
+use Rattle.nn_scenario.proofs.follow.LineReader.take_lines.Given as goal
+
+-- each line that has ended was read
+abbrev pub invariant-cuts : goal.invariant-cuts
+invariant-cuts g l = record {
+  few : l.self + length (ahead l.lines) ≤ max_input;
+  count : g.S.LineSink.count l.sink ≤ l.self;
+  read : LinesReadOn g.S.LineSink.has_read l.fn.self l.fn.lines l.fn.sink l.self l.lines l.sink;
+}
+
+abbrev pub decreases-cuts : goal.decreases-cuts
+decreases-cuts g l = length (ahead l.lines)

@@ -1,0 +1,52 @@
+use Rattle.std.proofs.Common.{arith, ◌++◌}
+use Rattle.nn_input.specs.Cut.{ahead}
+use Rattle.nn_types.specs.Limits.{max_input}
+use Rattle.nn_scenario.proofs.FollowLemmas.{few_so_far, nothing_so_far, of_some, read_more, read_rest, unread_behind}
+use Rattle.nn_scenario.proofs.follow.follow_lines.Goals as goal
+
+pub reads-init : goal.reads-init
+reads-init g c = record {
+  come = nothing_so_far c.args.input.now _ c.new-reader.result c.args.lines.now c.requires.fresh c.requires.new c.new-reader.ensures (omega (arith, c.left.ensures.left, c.left.ensures.few));
+  count = omega (arith, c.requires.none);
+}
+
+pub take_lines-requires-clause-few : goal.take_lines-requires-clause-few
+take_lines-requires-clause-few g c = few_so_far c.reads.invariant.come
+
+pub returns-in-Err-clause-why : goal.returns-in-Err-clause-why
+returns-in-Err-clause-why g c =
+    let x = c.reads.invariant.come in
+    unread_behind max_input c.reads.room (ahead c.args.lines.now) x.bytes c.args.input.now c.reads.input c.read_to_end.new.input c.in-Err.fault x.came x.room c.in-Err.ensures.why
+
+pub returns-in-Some-clause-read : goal.returns-in-Some-clause-read
+returns-in-Some-clause-read g c =
+    let x = c.reads.invariant.come in
+    read_rest x c.read_to_end.new.input c.in-Some.bad (of_some _ c.in-Some.is c.in-Ok.ensures.bad c.args.sink.now (ahead c.args.lines.now ++ x.bytes) x.read) c.in_default-read_to_end.ensures.read
+
+pub returns-in-Err-read_on-clause-why : goal.returns-in-Err-read_on-clause-why
+returns-in-Err-read_on-clause-why g c =
+    let x = c.reads.invariant.come in
+    unread_behind max_input c.reads.room (ahead c.args.lines.now) x.bytes c.args.input.now c.reads.input c.read_on.new.input c.in-Err-read_on.fault x.came x.room c.in-Err-read_on.ensures.why
+
+pub take_last-requires-clause-come : goal.take_last-requires-clause-come
+take_last-requires-clause-come g c =
+    let x = c.reads.invariant.come in
+    let read = c.in-Ok.ensures.read c.in_default-bad.is c.args.sink.now (ahead c.args.lines.now ++ x.bytes) x.read in
+    let y = read_more x read (c.in-Ok.ensures.all c.in_default-bad.is) c.in-Ok-read_on.ensures.read c.in-Ok-read_on.ensures.room in
+    (c.args.sink.now, ahead c.args.lines.now ++ y.bytes, y.read)
+
+pub returns-then-not-more-clause-read : goal.returns-then-not-more-clause-read
+returns-then-not-more-clause-read g c =
+    let x = c.reads.invariant.come in
+    let read = c.in-Ok.ensures.read c.in_default-bad.is c.args.sink.now (ahead c.args.lines.now ++ x.bytes) x.read in
+    let y = read_more x read (c.in-Ok.ensures.all c.in_default-bad.is) c.in-Ok-read_on.ensures.read c.in-Ok-read_on.ensures.room in
+    (y.bytes, record { came = y.came; within = omega (arith, y.room) }, c.take_last.ensures.read c.args.sink.now (ahead c.args.lines.now ++ y.bytes) y.read)
+
+pub reads-preserved : goal.reads-preserved
+reads-preserved g c =
+    let x = c.reads.invariant.come in
+    let read = c.in-Ok.ensures.read c.in_default-bad.is c.args.sink.now (ahead c.args.lines.now ++ x.bytes) x.read in
+    record {
+      come = read_more x read (c.in-Ok.ensures.all c.in_default-bad.is) c.in-Ok-read_on.ensures.read c.in-Ok-read_on.ensures.room;
+      count = c.in-Ok.ensures.count;
+    }

@@ -1,0 +1,14 @@
+use Rattle.std.proofs.Common.{◌≤◌}
+use Rattle.nn_input.specs.Cut.{ahead}
+use Rattle.nn_scenario.proofs.FollowLemmas.{SoFar}
+use Rattle.nn_scenario.proofs.follow.follow_lines.Given as goal
+
+-- each line of what was read was handed on
+abbrev pub invariant-reads : goal.invariant-reads
+invariant-reads g l = record {
+  come : SoFar g.S.LineSink.has_read l.fn.sink (ahead l.fn.lines) l.fn.input l.input l.room l.reader l.lines l.sink;
+  count : g.S.LineSink.count l.sink ≤ l.reader;
+}
+
+abbrev pub decreases-reads : goal.decreases-reads
+decreases-reads g l = l.room

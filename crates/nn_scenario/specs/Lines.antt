@@ -1,0 +1,37 @@
+-- A scenario whose lines are read one after another.
+use Rattle.std.specs.Prelude.{◌≡◌, ◌≢◌, ℕ, List, ◌++◌, Result, Ok, Err, IfOk, IfErr}
+use Rattle.nn_edits.specs.declared.fault.LineFault.TheVariants.{OutOfMemory}
+use Rattle.nn_scenario.specs.Cut.{parts_from, last_part}
+use Rattle.nn_scenario.specs.Scenario.{ScenarioLine, Scenario, HasMessagesOf, IsLawfulScenario, edit_lines, scenario_of, scenario_with, scenario_of_read, steps_from}
+use Rattle.nn_scenario.specs.Reading.{Reading, IsFollowed}
+use Rattle.nn_scenario.specs.Steps.{lanes_of_steps}
+use Rattle.nn_scenario.specs.declared.scenario.ScenarioFault.{ScenarioFault}
+use Rattle.nn_scenario.specs.declared.scenario.Scenario.{Scenario as Read}
+
+-- the scenario of what was read and of lines after it
+abbrev pub and_lines : Reading → List ScenarioLine → Scenario
+and_lines x lines = scenario_with (x.parts ++ parts_from x.in_hand (edit_lines lines)) (x.steps ++ steps_from (lanes_of_steps x.steps) lines)
+
+abbrev pub follow : Reading → Result (List ScenarioLine) ScenarioFault → Result Scenario ScenarioFault
+follow x (Ok lines) = Ok (and_lines x lines)
+follow x (Err e) = Err e
+
+-- of a text whose first bytes came, this line is refused, whatever follows
+abbrev pub IsRefusedLine : List ℕ → ScenarioFault → Type 0
+IsRefusedLine text bad = bad.fault ≢ OutOfMemory → (more : List ℕ) → scenario_of (text ++ more) ≡ Err bad
+
+-- a sink that took the line of this text has read it behind what it had read
+abbrev pub Hands : {S : Type 0} → (S → Reading → S → Type 0) → List ℕ → S → S → Type 0
+Hands {S} has_read text s t = (first : S) (x : Reading) → has_read first x s → (y : Reading) × has_read first y t × IsFollowed text x y
+
+-- a whole text was read by a sink that was this first, or a line is refused, unless memory ran out
+abbrev pub IsReadBy : {S : Type 0} → (S → Reading → S → Type 0) → S → List ℕ → Result S ScenarioFault → Type 0
+IsReadBy has_read first text (Ok s) = (x : Reading) × has_read first x s × (scenario_of text ≡ Ok (scenario_with (x.parts ++ last_part x.in_hand) x.steps))
+IsReadBy has_read first text (Err e) = e.fault ≢ OutOfMemory → scenario_of text ≡ Err e
+
+-- what was read of a whole text: its scenario, or its first line that is refused, unless memory ran out
+pub record IsScenarioOf (text : List ℕ) (r : Result Read ScenarioFault) : Type 0 where
+  pub ok : IfOk r (λ s. scenario_of text ≡ Ok (scenario_of_read s))
+  pub messages : IfOk r (λ s. HasMessagesOf text (scenario_of_read s))
+  pub lawful : IfOk r (λ s. IsLawfulScenario (scenario_of_read s))
+  pub bad : IfErr r (λ e. e.fault ≢ OutOfMemory → scenario_of text ≡ Err e)

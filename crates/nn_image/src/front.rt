@@ -8,6 +8,7 @@ ghost use Rattle.nn_image.specs.FrontReading.{HasJudged, ImageRead, IsAtMark, Is
 
 use crate::fault::ImageFault;
 use crate::loading::Loading;
+use crate::restoring::WHOLE;
 use nn_device::Reader;
 use nn_input::{InputFault, Lines, LinesFault};
 use nn_tree::Namespace;
@@ -21,9 +22,6 @@ const MARK: &[u8] = b"image";
 
 /// The bytes that are kept of a line that is passed over: one more than the mark has.
 const MAX_KEPT: usize = 6;
-
-/// Those that are kept of a line of an image: all.
-const ALL: usize = usize::MAX;
 
 /// How many bytes may be passed over before an image.
 const MAX_PASSED: u64 = MAX_INPUT as u64;
@@ -174,7 +172,7 @@ fn load_image<R: Read>(
 {
     let mut loading = Loading::new();
     'lines: loop {
-        let found = match lines.next(input, ALL) {
+        let found = match lines.next(input, WHOLE) {
             Ok(found) => found,
             Err(fault) => return Err(fault),
         };
@@ -200,7 +198,7 @@ fn push_lines(alloc: Global, lines: &mut Lines, loading: &mut Loading) -> Result
         → ((bytes : List ℕ) → WaitsOn bytes lines.old loading.old → WaitsOn bytes lines.new loading.new) × (ahead lines.new ≡ [])) }
 {
     'lines: loop {
-        let Ok(found) = lines.cut(ALL) else {
+        let Ok(found) = lines.cut(WHOLE) else {
             return Err(AllocError);
         };
         let Some(place) = found else {

@@ -15,8 +15,8 @@ use nn_types::Txid;
 use std::alloc::Global;
 use std::io::Read;
 
-/// A line is kept whole, however many reads it comes in.
-const WHOLE: usize = usize::MAX;
+/// A line of an image is kept whole, however many reads it comes in.
+pub(crate) const WHOLE: usize = usize::MAX;
 
 /// Reads an image of version 1 or 2, and gives its namespace and its txid. Version 1 has no profile, and stands for
 /// profile 1. Saved, the two make an image that is read as the same. It reads on to the end, or at most 65,536

@@ -8,3 +8,4 @@ mod torn;
 
 pub use fault::{InputFault, LinesFault};
 pub use lines::{Lines, Place};
+pub use torn::TornBytes;

@@ -191,14 +191,6 @@ impl Lines {
         Ok(Some(self.buffer[self.from]))
     }
 
-    /// How many bytes of this input are cut, where what is ahead came from it.
-    pub fn taken<R: Read>(&self, input: &Reader<R>) -> u64
-        requires { length (ahead self.now) ≤ input.now.given }
-        ensures { result + length (ahead self.now) ≡ input.now.given }
-    {
-        input.given() - (self.to - self.from) as u64
-    }
-
     /// The text of the line that has just ended.
     pub fn text(&self, place: Place) -> &[u8]
         requires { IsThere place self.now }

@@ -1,5 +1,5 @@
 //! The bytes behind the last line feed.
-ghost use Rattle.std.specs.Prelude.{◌≡◌, ◌<◌, ◌-◌, ◌^◌, ◌++◌, [], List, ℕ, length, take, OnOk};
+ghost use Rattle.std.specs.Prelude.{◌≡◌, ◌≢◌, ◌<◌, ◌-◌, ◌^◌, ◌++◌, [], List, ℕ, length, take, OnErr, OnOk};
 ghost use Rattle.nn_input.specs.Cut.{KeepsFirst, no_bytes};
 
 use nn_bytes::is_blank;
@@ -8,7 +8,7 @@ use std::marker::Model;
 
 /// Of the bytes behind the last line feed the first ones, and whether all are blank.
 #[derive(Debug, Drop)]
-pub(crate) struct TornBytes {
+pub struct TornBytes {
     kept: Vec<u8>,
     blank: bool,
 }
@@ -23,7 +23,7 @@ impl Model for TornBytes {
 
 impl TornBytes {
     /// No bytes. Takes no memory.
-    pub(crate) fn none(alloc: Global) -> TornBytes
+    pub fn none(alloc: Global) -> TornBytes
         ensures { result ≡ no_bytes }
     {
         TornBytes {
@@ -33,7 +33,7 @@ impl TornBytes {
     }
 
     /// Those that are kept.
-    pub(crate) fn as_slice(&self) -> &[u8]
+    pub fn as_slice(&self) -> &[u8]
         ensures kept { result.now ≡ self.now.kept }
         ensures fits { length result.now < 2 ^ 63 }
     {
@@ -41,16 +41,21 @@ impl TornBytes {
     }
 
     /// Whether all of the bytes are blank, also those that are not kept.
-    pub(crate) fn is_blank(&self) -> bool
+    pub fn is_blank(&self) -> bool
         ensures { result ≡ self.now.blank }
     {
         self.blank
     }
 
-    /// Adds more, of which so many bytes in all are kept.
-    pub(crate) fn push(&mut self, bytes: &[u8], most: usize) -> Result<(), AllocError>
-        ensures { OnOk result ((torn : List ℕ) → KeepsFirst most torn self.old → KeepsFirst most (torn ++ bytes.now) self.new) }
+    /// Adds more, of which so many bytes in all are kept. No bytes take no memory.
+    pub fn push(&mut self, bytes: &[u8], most: usize) -> Result<(), AllocError>
+        ensures ok { OnOk result ((torn : List ℕ) → KeepsFirst most torn self.old → KeepsFirst most (torn ++ bytes.now) self.new) }
+        ensures left { OnErr result (self.new ≡ self.old) }
+        ensures some { OnErr result (bytes.now ≢ []) }
     {
+        if bytes.is_empty() {
+            return Ok(());
+        }
         let room = most.saturating_sub(self.kept.len());
         if let Err(_) = self.kept.extend_from_slice(prefix(bytes, room)) {
             return Err(AllocError);
@@ -60,7 +65,7 @@ impl TornBytes {
     }
 
     /// Lets them go.
-    pub(crate) fn clear(&mut self)
+    pub fn clear(&mut self)
         ensures { self.new ≡ no_bytes }
     {
         self.kept.clear();

@@ -24,7 +24,7 @@ pub(crate) struct InputParts {
 }
 
 /// Reads an input to the reader's end, with an image before the scenario or without one. The image is loaded as it comes, and
-/// what is passed over before it is not kept, and has at most `MAX_PASSED` bytes. Of what follows the image, `MAX_INPUT` bytes
+/// what is passed over before it is not kept, and has at most 16,777,216 bytes. Of what follows the image, as many
 /// are read at most.
 pub(crate) fn read_parts<R: Read>(
     alloc: Global,

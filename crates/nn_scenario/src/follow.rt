@@ -19,7 +19,7 @@ use std::io::Read;
 use std::marker::Model;
 
 /// Of a line so many bytes are kept: one more than a line may have, whose fault does not depend on the others.
-const MOST_KEPT: usize = MAX_LINE_LEN + 1;
+pub const MAX_KEPT: usize = MAX_LINE_LEN + 1;
 
 /// Reads a scenario to the reader's end, and hands each line to the sink as soon as it has ended, up to the first that is
 /// refused: that line is the answer. Behind it the input is read on, since one that can't be read is told first. The last line may
@@ -123,7 +123,7 @@ impl LineReader {
         ensures count { S.count sink.new ≤ self.new }
     {
         'cuts: loop {
-            let Ok(found) = lines.cut(MOST_KEPT) else {
+            let Ok(found) = lines.cut(MAX_KEPT) else {
                 return Err(AllocError);
             };
             let Some(place) = found else {

@@ -13,7 +13,7 @@ mod step_list;
 mod steps;
 
 pub use checking::SegmentCheck;
-pub use follow::{follow_lines, pass_to_end};
+pub use follow::{MAX_KEPT, follow_lines, pass_to_end};
 pub use lines::LineSink;
 pub use nn_types::limits::MAX_INPUT;
 pub use scenario::{Reading, Scenario, ScenarioFault, read_lines, scenario_of};

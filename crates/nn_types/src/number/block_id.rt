@@ -24,6 +24,9 @@ impl Model for BlockId {
 }
 
 impl BlockId {
+    /// The lowest block id.
+    pub const ZERO: BlockId = BlockId { value: 0 };
+
     /// The block id, if the value is below 2^63.
     pub fn new(value: u64) -> Option<BlockId>
         ensures { SomeIff result (value < 2 ^ 63) value }

@@ -23,6 +23,9 @@ impl Model for GenerationStamp {
 }
 
 impl GenerationStamp {
+    /// The lowest generation stamp.
+    pub const ZERO: GenerationStamp = GenerationStamp { value: 0 };
+
     /// The generation stamp, if the value is below 2^63.
     pub fn new(value: u64) -> Option<GenerationStamp>
         ensures { SomeIff result (value < 2 ^ 63) value }

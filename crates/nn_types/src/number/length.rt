@@ -23,6 +23,9 @@ impl Model for Length {
 }
 
 impl Length {
+    /// No bytes.
+    pub const ZERO: Length = Length { value: 0 };
+
     /// The length, if the value is below 2^63.
     pub fn new(value: u64) -> Option<Length>
         ensures { SomeIff result (value < 2 ^ 63) value }

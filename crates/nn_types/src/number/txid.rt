@@ -23,6 +23,9 @@ impl Model for Txid {
 }
 
 impl Txid {
+    /// No transaction: what a log's transactions count up from.
+    pub const ZERO: Txid = Txid { value: 0 };
+
     /// The transaction number, if the value is below 2^63.
     pub fn new(value: u64) -> Option<Txid>
         ensures { SomeIff result (value < 2 ^ 63) value }

@@ -3,8 +3,8 @@ use Rattle.nn_input.specs.Cut.{KeepsFirst}
 use Rattle.nn_input.proofs.Cuts.{keeps_more}
 use Rattle.nn_input.proofs.torn.TornBytes.push.Goals as goal
 
-pub returns : goal.returns
-returns c torn there =
+pub returns-clause-ok : goal.returns-clause-ok
+returns-clause-ok c torn there =
     let old = c.self.inside.kept.items in
     let bytes = c.args.bytes.now in
     let most = c.args.most in

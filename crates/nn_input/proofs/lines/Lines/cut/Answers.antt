@@ -11,7 +11,7 @@ returns-then-end-left-clause-none c = λ _.
     let cut = no_feed_ahead c.self.inside.buffer.items c.deref.result.now c.self.inside.from c.self.inside.to c.deref.ensures.value c.line_end-end.result c.line_end-end.ensures.end c.line_end-end.ensures.within c.if-end-left.true in (
       λ bytes lines h.
           none_ends most bytes lines old new cut.0 cut.2
-          (λ torn has. subst (λ (t : List ℕ). KeepsFirst most (torn ++ t) c.push.new.self) cut.1 (c.in_default.ensures torn has)) (subst (HasCome most bytes lines) (sym c.self.view_is) h),
+          (λ torn has. subst (λ (t : List ℕ). KeepsFirst most (torn ++ t) c.push.new.self) cut.1 (c.in_default.ensures.ok torn has)) (subst (HasCome most bytes lines) (sym c.self.view_is) h),
       cut.2,
     )
 
@@ -33,4 +33,4 @@ returns-clause-line c bytes lines h =
     let most = c.args.most in
     let swapped : c.swap.new.y ≡ c.push-2.new.self = c.swap.ensures.y_after in
     kept_line most bytes lines _ old new cut.0 cut.1 c.clear.ensures
-    (λ torn has. subst (KeepsFirst most (torn ++ _)) (sym swapped) (c.in_default-push.ensures torn has)) (subst (HasCome most bytes lines) (sym c.self.view_is) h)
+    (λ torn has. subst (KeepsFirst most (torn ++ _)) (sym swapped) (c.in_default-push.ensures.ok torn has)) (subst (HasCome most bytes lines) (sym c.self.view_is) h)

@@ -106,10 +106,7 @@ fn put_rows<W: Write>(page: &mut Page, writer: &mut Writer<W>, mut rows: Rows<'_
     ensures { PutsPiece (flat_map row_line rows.entry.left) page.old writer.old page.new writer.new }
 {
     'rows: while !page.has_failed() {
-        let Ok(next) = rows.next_row() else {
-            unreachable!();
-        };
-        let Some(found) = next else {
+        let Some(found) = rows.next_ready() else {
             return;
         };
         put_row(page, writer, rows.names(), found);

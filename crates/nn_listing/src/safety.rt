@@ -94,10 +94,7 @@ pub fn put_unsafe_rows<W: Write>(
 {
     let mut kept = Kept { table, min, most };
     'rows: while kept.most > 0 {
-        let Ok(next) = rows.next_row() else {
-            unreachable!();
-        };
-        let Some(found) = next else {
+        let Some(found) = rows.next_ready() else {
             return;
         };
         kept.put_row(page, writer, rows.names(), found);

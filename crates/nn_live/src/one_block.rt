@@ -32,10 +32,7 @@ pub(crate) fn put_holder<W: Write>(
     ensures { PutsPiece (flat_map (holder_lines id) rows.entry.left) page.old writer.old page.new writer.new }
 {
     'rows: loop {
-        let Ok(next) = rows.next_row() else {
-            unreachable!();
-        };
-        let Some(found) = next else {
+        let Some(found) = rows.next_ready() else {
             return;
         };
         put_holder_row(page, writer, rows.names(), found, id);

@@ -194,6 +194,19 @@ impl<'a> Rows<'a> {
         Ok(Some(tree.top()))
     }
 
+    /// The next row of a walk that has its room: it wants no more memory.
+    pub fn next_ready(&mut self) -> Option<Found<'a>>
+        requires { greatest_depth self.old.left ≤ self.old.room }
+        ensures row { IfSome result (λ found. self.old.left ≡ (self.new.names, form_of found) ∷ self.new.left) }
+        ensures end { result ≡ None → (self.old.left ≡ []) × (self.new.left ≡ []) }
+        ensures more_room { self.old.room ≤ self.new.room }
+    {
+        let Ok(next) = self.next_row() else {
+            unreachable!();
+        };
+        next
+    }
+
     /// How many rows are left, and how deep they are.
     pub(crate) fn extent(mut self) -> Result<Extent, AllocError>
         ensures { IfOk result (λ extent. extent ≡ extent_of self.entry.left) }

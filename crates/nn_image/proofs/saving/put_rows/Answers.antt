@@ -9,12 +9,12 @@ use Rattle.nn_image.proofs.saving.put_rows.Goals as goal
 
 pub rows-preserved : goal.rows-preserved
 rows-preserved g c =
-    let row : Path × Form = (c.next_row.new.self.names, form_of c.in-Some.found) in
-    let next : c.rows.rows.left ≡ row ∷ c.next_row.new.self.left = search rules in
+    let row : Path × Form = (c.next_ready.new.self.names, form_of c.in-Some.found) in
+    let next : c.rows.rows.left ≡ row ∷ c.next_ready.new.self.left = search rules in
     record {
-      put = next_first (λ row. value_line (row_data row)) (row_lines c.args.rows.left) row c.rows.rows.left c.next_row.new.self.left c.args.page.now c.rows.page c.put_row.new.page
+      put = next_first (λ row. value_line (row_data row)) (row_lines c.args.rows.left) row c.rows.rows.left c.next_ready.new.self.left c.args.page.now c.rows.page c.put_row.new.page
           c.args.writer.now c.rows.writer c.put_row.new.writer next c.rows.invariant.put (rw c.names.ensures at c.put_row.ensures);
-      room = room_left row c.rows.rows.left c.next_row.new.self.left c.rows.rows.room c.next_row.new.self.room next c.rows.invariant.room c.next_row.ensures.more_room;
+      room = room_left row c.rows.rows.left c.next_ready.new.self.left c.rows.rows.room c.next_ready.new.self.room next c.rows.invariant.room c.next_ready.ensures.more_room;
     }
 
 pub returns : goal.returns

@@ -16,17 +16,17 @@ use Rattle.nn_listing.proofs.safety.put_unsafe_rows.Goals as goal
 
 pub rows-preserved : goal.rows-preserved
 rows-preserved g c =
-    let row : Path × Form = (c.next_row.new.self.names, form_of c.in-Some.found) in
-    let next : c.rows.rows.left ≡ row ∷ c.next_row.new.self.left = search rules in
+    let row : Path × Form = (c.next_ready.new.self.names, form_of c.in-Some.found) in
+    let next : c.rows.rows.left ≡ row ∷ c.next_ready.new.self.left = search rules in
     let lines : Kept → Path → List (List ℕ) = λ k p. flat_map (unsafe_by k p) (closed_blocks_of row.1) in
-    let left : Kept → List (List ℕ) = λ k. unsafe_in k.min (replica_at k.table.now) c.next_row.new.self.left in
+    let left : Kept → List (List ℕ) = λ k. unsafe_in k.min (replica_at k.table.now) c.next_ready.new.self.left in
     let k = c.rows.kept in
     let now = subst (λ p. c.put_row.new.self ≡ kept_after k (lines k p)) c.names.ensures c.put_row.ensures.left in
     let put = subst (λ p. PutsPiece (kept_lines k (lines k p)) c.rows.page c.rows.writer c.put_row.new.page c.put_row.new.writer) c.names.ensures c.put_row.ensures.put in
     record {
       put = subst (λ (k : Kept). PutsAllBut (joined (take c.args.most (unsafe_in c.args.min (replica_at c.args.table.now) c.args.rows.left))) (kept_lines k (left k)) c.args.page.now c.args.writer.now c.put_row.new.page c.put_row.new.writer)
           (sym now) (first_put k _ _ _ (ap (unsafe_in k.min (replica_at k.table.now)) next) _ _ _ _ _ _ _ c.rows.invariant.put put);
-      room = room_left (greatest_depth c.rows.rows.left) (greatest_depth c.next_row.new.self.left) c.rows.rows.room c.next_row.new.self.room (shallower c.rows.rows.left c.next_row.new.self.left row next) c.rows.invariant.room c.in-Ok.ensures.more_room;
+      room = room_left (greatest_depth c.rows.rows.left) (greatest_depth c.next_ready.new.self.left) c.rows.rows.room c.next_ready.new.self.room (shallower c.rows.rows.left c.next_ready.new.self.left row next) c.rows.invariant.room c.next_ready.ensures.more_room;
       shows = (c.rows.invariant.shows.0, subst (λ (k : Kept). Shows c.rows.invariant.shows.0 k.table.now) (sym now) c.rows.invariant.shows.1);
     }
   where

@@ -193,9 +193,10 @@ fn run_plain<R: Read, W: Write>(
 fn unwritten() -> RunEnd
     ensures { result ≡ record { status = 1; fault = None } }
 {
+    let fault = None;
     RunEnd {
         status: FAILED,
-        fault: None,
+        fault,
     }
 }
 

@@ -115,7 +115,7 @@ pub(crate) fn put_segment_words<W: Write>(
         }
         SegmentFault::NoEnd => page.put(writer, b"no end mark, or a mark inside"),
         SegmentFault::NameMismatch => page.put(writer, b"named for other transactions"),
-        SegmentFault::OutOfMemory => page.put(writer, NO_MEMORY.as_bytes()),
+        SegmentFault::OutOfMemory => page.put(writer, b"out of memory"),
     }
 }
 

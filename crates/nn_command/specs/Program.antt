@@ -98,7 +98,8 @@ EndsService options before after output output' ended = (o : LiveOptions) × Ask
 
 -- a run, with threads or without: its output, and a reader that was not asked without end
 abbrev pub WritesRun : RunOptions → Bool → Reader → Reader → Writer → Writer → ℕ → List ℕ → Type 0
-WritesRun options threads before after output output' ended told = WritesOutput (running options threads before after) output output' ended told × (after.reads ≤ 2 ^ 24)
+WritesRun options threads before after output output' ended told =
+    WritesOutput (running options threads before after) output output' ended told × (after.reads ≤ 2 ^ 24)
 
 -- a service where one is asked for, beside which nothing is told, else a run
 abbrev pub EndsSo : Bool → RunOptions → Bool → Reader → Reader → Writer → Writer → ℕ → List ℕ → Type 0

@@ -110,7 +110,8 @@ unfolding takes takes_all takes_torn takes_pieces word_in word_alone read_segmen
 served_behind_a_gap = refl
 
 -- a word is no line of a run
-run_of_a_word : ran (asks false) (codes "sync" ∷ []) ≡ faulted (codes "fault 1 line 1") (codes "error: line 1: not a JSON object (fault 1; --explain 1 says more)")
+run_of_a_word : ran (asks false) (codes "sync" ∷ [])
+    ≡ faulted (codes "fault 1 line 1") (codes "error: line 1: not a JSON object (fault 1; --explain 1 says more)")
 unfolding output_of read_segment fault_of_segment txids_of segment_file_name name_digits reads_of edit_of_line end_of_txs scenario_of lines_from segments_from parts_from end_of_log digits escape_byte datanodes either_of_line either_in report_in dn_in kind_in kind_of object_in value_of tx_in op_in op_of txid_in whole_in number_in path_in profile_in edit_in blocks_in items_in block_in is_utf8 chars encode value punctuate lex content word after_number number_of scan_numeral
 run_of_a_word = refl
 

@@ -11,7 +11,7 @@ use Rattle.nn_run.specs.Errors.{error_line}
 use Rattle.nn_run.specs.Following.{stop_of}
 use Rattle.nn_run.specs.InMemory.{cause_by, refusal_of}
 use Rattle.nn_run.specs.Output.{log_fault}
-use Rattle.nn_run.specs.Pieces.{place_before_words, place_of, words_of}
+use Rattle.nn_run.specs.Pieces.{place_before_words, place_of, failure_words}
 use Rattle.nn_run.specs.Run.{failed, number_of}
 use Rattle.nn_run.specs.declared.failure.RunFailure.{RunFailure}
 use Rattle.nn_run.specs.declared.failure.RunFailure.TheVariants as failure
@@ -61,7 +61,7 @@ text_is (failure.Segment fault segment) = refl
 text_is (failure.Log (stop.Refused fault txid)) = refl
 text_is (failure.Log (stop.Disorder txid)) = refl
 
-pub error_is : (f : RunFailure) → error_line (place_before_words f) (words_of f) (decimal (number_of f)) ≡ (failed f).error
+pub error_is : (f : RunFailure) → error_line (place_before_words f) (failure_words f) (decimal (number_of f)) ≡ (failed f).error
 unfolding digits
 error_is (failure.Unread input.ReadFailed) = refl
 error_is (failure.Unread input.TooLong) = refl
@@ -81,4 +81,4 @@ error_is (failure.Log (stop.Disorder txid)) = refl
 
 -- it is never empty
 pub error_said : (f : RunFailure) → (failed f).error ≡ [] → ⊥
-error_said f none = let e : error_line (place_before_words f) (words_of f) (decimal (number_of f)) ≡ [] = error_is f ∙ none in cc
+error_said f none = let e : error_line (place_before_words f) (failure_words f) (decimal (number_of f)) ≡ [] = error_is f ∙ none in cc

@@ -15,7 +15,8 @@ use Rattle.nn_run.specs.declared.follower.LogFault.TheVariants.{Refused, Disorde
 abbrev line_of : List ℕ → List ℕ
 line_of text = text ++ line_feed ∷ []
 
-at_a_place : error_line (codes " segment 1:") (codes "transaction 3 is missing") (codes "14") ≡ line_of (codes "error: segment 1: transaction 3 is missing (fault 14; --explain 14 says more)")
+at_a_place : error_line (codes " segment 1:") (codes "transaction 3 is missing") (codes "14")
+    ≡ line_of (codes "error: segment 1: transaction 3 is missing (fault 14; --explain 14 says more)")
 at_a_place = refl
 
 of_the_whole : error_line [] (codes "out of memory") (codes "55") ≡ line_of (codes "error: out of memory (fault 55; --explain 55 says more)")

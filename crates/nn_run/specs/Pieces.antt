@@ -50,12 +50,12 @@ abbrev pub log_words : LogFault → List ℕ
 log_words (stop.Refused fault txid) = stop_words (refused fault)
 log_words (stop.Disorder txid) = stop_words disorder
 
-abbrev pub words_of : RunFailure → List ℕ
-words_of (failure.Unread fault) = input_words fault
-words_of (failure.Image fault) = image_words fault
-words_of (failure.Line fault line) = line_words fault
-words_of (failure.Segment fault segment) = segment_words fault
-words_of (failure.Log fault) = log_words fault
+abbrev pub failure_words : RunFailure → List ℕ
+failure_words (failure.Unread fault) = input_words fault
+failure_words (failure.Image fault) = image_words fault
+failure_words (failure.Line fault line) = line_words fault
+failure_words (failure.Segment fault segment) = segment_words fault
+failure_words (failure.Log fault) = log_words fault
 
 -- a text, where there is one
 abbrev pub text_after : Option (List ℕ) → List ℕ

@@ -113,12 +113,29 @@ abbrev unwritten : Writer
 unwritten = record { contents = Some []; taken = 0; failed = false }
 
 -- memory ran out, and no read failed
-wrote_55 : (options : Options) → WroteOutput (running options false (reader false) (reader false)) unwritten (memory_line false) 1 (codes "error: out of memory (fault 55; --explain 55 says more)" ++ line_feed ∷ [])
-wrote_55 options = record { output = unread OutOfMemory; right = inr (OutOfMemory, refl, refl); took = record { bytes = refl; counted = refl; unfailed = refl }; ends = refl; told = refl }
+wrote_55 : (options : Options) → WroteOutput (running options false (reader false) (reader false)) unwritten (memory_line false) 1
+    (codes "error: out of memory (fault 55; --explain 55 says more)" ++ line_feed ∷ [])
+wrote_55 options = record {
+  output = unread OutOfMemory;
+  right = inr (OutOfMemory, refl, refl);
+  took = record { bytes = refl; counted = refl; unfailed = refl };
+  ends = refl;
+  told = refl;
+}
 
-wrote_8 : (options : Options) → WroteOutput (running options false (reader false) (reader true)) unwritten (record { contents = Some (codes "fault 8" ++ line_feed ∷ []); taken = 8; failed = false }) 1
+-- a writer that got the line of an input that can't be read
+abbrev unread_written : Writer
+unread_written = record { contents = Some (codes "fault 8" ++ line_feed ∷ []); taken = 8; failed = false }
+
+wrote_8 : (options : Options) → WroteOutput (running options false (reader false) (reader true)) unwritten unread_written 1
     (codes "error: the input could not be read (fault 8; --explain 8 says more)" ++ line_feed ∷ [])
-wrote_8 options = record { output = unread ReadFailed; right = inr (ReadFailed, refl, refl); took = record { bytes = refl; counted = refl; unfailed = refl }; ends = refl; told = refl }
+wrote_8 options = record {
+  output = unread ReadFailed;
+  right = inr (ReadFailed, refl, refl);
+  took = record { bytes = refl; counted = refl; unfailed = refl };
+  ends = refl;
+  told = refl;
+}
 
 -- a line on standard error is of what was written, and a listing has none
 not_with_a_line : (given : Given) (writer' : Writer) (ended : ℕ) (h : WroteOutput given unwritten writer' ended (codes "error")) → h.output.error ≡ [] → ⊥
@@ -129,8 +146,12 @@ not_with_a_failed_write : (given : Given) (ended : ℕ) (error : List ℕ) → W
 not_with_a_failed_write given ended error h = true≢false h.took.unfailed
 
 -- and all of it is what the writer got
-not_with_more_counted : (given : Given) (ended : ℕ) (error text : List ℕ) → length text ≡ 3 → WroteOutput given unwritten (record { contents = Some text; taken = 4; failed = false }) ended error → ⊥
-not_with_more_counted given ended error text three h = let n = h.took.counted in let m : length text ≡ length h.output.text = ap length h.took.bytes in omega (arith, n, m, three)
+not_with_more_counted : (given : Given) (ended : ℕ) (error text : List ℕ) → length text ≡ 3
+    → WroteOutput given unwritten (record { contents = Some text; taken = 4; failed = false }) ended error → ⊥
+not_with_more_counted given ended error text three h =
+    let n = h.took.counted in
+    let m : length text ≡ length h.output.text = ap length h.took.bytes in
+    omega (arith, n, m, three)
 
 -- a writer that got the first word of a line
 abbrev word : Bool → Writer

@@ -104,8 +104,11 @@ histories : (with_history true (Applied 1 ∷ []) (listed (codes "x" ∷ [])) �
 unfolding digits
 histories = (refl, refl, refl)
 
+abbrev no_header : Printed
+no_header = faulted (codes "fault 61 image") (codes "error: image: the first line is no header (fault 61; --explain 61 says more)")
+
 -- the fault of an image is printed alone
-no_image : IsPrinted false goes_on (codes "x") (faulted (codes "fault 61 image") (codes "error: image: the first line is no header (fault 61; --explain 61 says more)"))
+no_image : IsPrinted false goes_on (codes "x") no_header
 unfolding divided digits
 no_image = refl
 
@@ -121,16 +124,22 @@ is_bad : scenario_of no_path ≡ Err (record { fault = MissingField; line = 1 })
 unfolding scenario_of lines_from edit_of_line either_of_line either_in report_in dn_in kind_in kind_of object_in line_value tx_in op_in op_of txid_in whole_in line_number line_path line_profile edit_in blocks_in items_in block_in is_utf8 chars encode value punctuate lex content word after_number json_number scan_numeral
 is_bad = refl
 
-is_told : output_of from_root usual no_path ≡ faulted (codes "fault 2 line 1") (codes "error: line 1: a key is missing (fault 2; --explain 2 says more)")
+abbrev lacks_key : Printed
+lacks_key = faulted (codes "fault 2 line 1") (codes "error: line 1: a key is missing (fault 2; --explain 2 says more)")
+
+abbrev has_no_number : Printed
+has_no_number = faulted (codes "fault 3 line 1") (codes "error: line 1: not a whole number in range (fault 3; --explain 3 says more)")
+
+is_told : output_of from_root usual no_path ≡ lacks_key
 unfolding output_of scenario_of lines_from edit_of_line either_of_line either_in report_in dn_in kind_in kind_of object_in line_value tx_in op_in op_of txid_in whole_in line_number line_path line_profile edit_in blocks_in items_in block_in digits is_utf8 chars encode value punctuate lex content word after_number json_number scan_numeral
 is_told = refl
 
-a_bad_line : IsPrinted false usual no_path (faulted (codes "fault 2 line 1") (codes "error: line 1: a key is missing (fault 2; --explain 2 says more)"))
+a_bad_line : IsPrinted false usual no_path lacks_key
 a_bad_line = record { events = []; happened = λ scenario e. absurd (cc (is_bad, e)); is = sym (ap (with_history false []) is_told) }
 
-another_text : IsPrinted false usual no_path (faulted (codes "fault 3 line 1") (codes "error: line 1: not a whole number in range (fault 3; --explain 3 says more)")) → ⊥
+another_text : IsPrinted false usual no_path has_no_number → ⊥
 another_text h =
-    let same : faulted (codes "fault 3 line 1") (codes "error: line 1: not a whole number in range (fault 3; --explain 3 says more)") ≡ faulted (codes "fault 2 line 1") (codes "error: line 1: a key is missing (fault 2; --explain 2 says more)") = h.is ∙ ap (with_history false h.events) is_told in
+    let same : has_no_number ≡ lacks_key = h.is ∙ ap (with_history false h.events) is_told in
     let digit : 51 ≡ 50 = ap (λ p. get_or p.text 6 0) same in
     omega (arith, digit)
 

@@ -95,7 +95,8 @@ fn output_of_end(end: Result<Shadow, BadInput>) -> Result<Output, AllocError>
 }
 
 fn failure_of_halt(halt: BadInput) -> Result<RunFailure, AllocError>
-    ensures { (options : RunOptions) (input : List ℕ) → IsRunOf options input (Err halt) → IfOk result (λ failure. IsPrinted false options input (failed failure)) }
+    ensures { (options : RunOptions) (input : List ℕ) → IsRunOf options input (Err halt)
+        → IfOk result (λ failure. IsPrinted false options input (failed failure)) }
 {
     match halt {
         BadInput::Image(fault) => Ok(RunFailure::Image(fault)),

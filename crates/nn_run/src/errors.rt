@@ -100,18 +100,19 @@ pub(crate) fn put_segment_words<W: Write>(
         SegmentFault::TooLong => page.put(writer, b"longer than 16777216 bytes"),
         SegmentFault::NoStart => page.put(writer, b"no start mark"),
         SegmentFault::TornLine { line } => {
-            put_numbered(page, writer, "line ", line, " has no line feed");
+            put_of_line(page, writer, line, " has no line feed");
         }
         SegmentFault::BadLine { line, fault } => {
-            put_numbered(page, writer, "line ", line, " is no transaction: ");
+            put_of_line(page, writer, line, " is no transaction: ");
             page.put(writer, line_words(fault).as_bytes());
         }
         SegmentFault::Gap { expected } => {
-            put_numbered(page, writer, "transaction ", expected, " is missing");
+            page.put(writer, b"transaction ");
+            put_number(page, writer, expected);
+            page.put(writer, b" is missing");
         }
         SegmentFault::WrongProfile { line } => {
-            let rest = " is an append, in a segment of profile 1";
-            put_numbered(page, writer, "line ", line, rest);
+            put_of_line(page, writer, line, " is an append, in a segment of profile 1");
         }
         SegmentFault::NoEnd => page.put(writer, b"no end mark, or a mark inside"),
         SegmentFault::NameMismatch => page.put(writer, b"named for other transactions"),
@@ -119,17 +120,11 @@ pub(crate) fn put_segment_words<W: Write>(
     }
 }
 
-// A number between words.
-fn put_numbered<W: Write>(
-    page: &mut Page,
-    writer: &mut Writer<W>,
-    before: &str,
-    number: u64,
-    behind: &str,
-)
-    ensures { PutsPiece (before.now ++ decimal number ++ behind.now) page.old writer.old page.new writer.new }
+// What is wrong with a line.
+fn put_of_line<W: Write>(page: &mut Page, writer: &mut Writer<W>, line: u64, words: &str)
+    ensures { PutsPiece (codes "line " ++ decimal line ++ words.now) page.old writer.old page.new writer.new }
 {
-    page.put(writer, before.as_bytes());
-    put_number(page, writer, number);
-    page.put(writer, behind.as_bytes());
+    page.put(writer, b"line ");
+    put_number(page, writer, line);
+    page.put(writer, words.as_bytes());
 }

@@ -2,7 +2,7 @@
 ghost use Rattle.std.specs.Prelude.{◌≡◌, ◌≢◌, decimal, IfOk};
 ghost use Rattle.nn_device.specs.Page.{PutsPiece};
 ghost use Rattle.nn_run.specs.Output.{image_fault, line_fault, segment_fault};
-ghost use Rattle.nn_run.specs.Pieces.{place_before_words, place_in_image, place_of, place_text, words_of};
+ghost use Rattle.nn_run.specs.Pieces.{place_before_words, place_in_image, place_of, place_text, failure_words};
 ghost use Rattle.nn_run.specs.Run.{failed, number_of, unread_line};
 
 use crate::errors::{image_words, input_words, line_words, log_words, put_segment_words};
@@ -140,7 +140,7 @@ impl RunFailure {
 
     // What is wrong there.
     fn put_words<W: Write>(self, page: &mut Page, writer: &mut Writer<W>)
-        ensures { PutsPiece (words_of self) page.old writer.old page.new writer.new }
+        ensures { PutsPiece (failure_words self) page.old writer.old page.new writer.new }
     {
         match self {
             RunFailure::Unread(fault) => page.put(writer, input_words(fault).as_bytes()),

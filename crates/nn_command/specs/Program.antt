@@ -1,6 +1,8 @@
 -- What the program does for its arguments, and the status that it ends with.
 use Rattle.std.specs.Prelude.{◌≡◌, ◌≢◌, ◌≤◌, ◌^◌, ◌⊎◌, ◌∷◌, [], ◌++◌, ℕ, Bool, true, false, List, codes, decimal, Some, None, MatchOption}
 use Rattle.nn_device.specs.Device.{Reader, Writer, Took, FailedToWrite}
+use Rattle.nn_device.specs.Parts.{TookPrefix}
+use Rattle.nn_device.specs.declared.writer.OutputFault.TheVariants.{WriteFailed}
 use Rattle.clap.specs.Words.{Text, IsAmong, fault_of}
 use Rattle.clap.specs.declared.error.kind.ErrorKind.{ErrorKind}
 use Rattle.clap.specs.declared.error.kind.ErrorKind.TheVariants.{DisplayHelp, DisplayVersion}
@@ -76,9 +78,10 @@ WritesText old new text status ended = (Took old new text × (ended ≡ status))
 abbrev pub memory_line : List ℕ
 memory_line = codes "fault 55" ++ line_feed ∷ []
 
--- the output, and the status that goes with it; or a prefix of it, and the status 1
-abbrev pub WritesOutput : Given → Writer → Writer → ℕ → Type 0
-WritesOutput given output output' ended = WroteOutput given output output' ended ⊎ ((fault : RunFault) × WroteOutputPrefix given output output' fault × (ended ≡ 1))
+-- the output, the status that goes with it, and what is told beside it; or a prefix of it, the status 1, and nothing beside it
+abbrev pub WritesOutput : Given → Writer → Writer → ℕ → List ℕ → Type 0
+WritesOutput given output output' ended told =
+    WroteOutput given output output' ended told ⊎ ((fault : RunFault) × WroteOutputPrefix given output output' fault × (ended ≡ 1) × (told ≡ []))
 
 -- a service is asked for what these options say, and has the version of the program
 pub record AsksFor (options : RunOptions) (o : LiveOptions) : Type 0 where
@@ -94,19 +97,25 @@ abbrev pub EndsService : RunOptions → Reader → Reader → Writer → Writer 
 EndsService options before after output output' ended = (o : LiveOptions) × AsksFor options o × EndsServing o before after output output' ended
 
 -- a run, with threads or without: its output, and a reader that was not asked without end
-abbrev pub WritesRun : RunOptions → Bool → Reader → Reader → Writer → Writer → ℕ → Type 0
-WritesRun options threads before after output output' ended = WritesOutput (running options threads before after) output output' ended × (after.reads ≤ 2 ^ 24)
+abbrev pub WritesRun : RunOptions → Bool → Reader → Reader → Writer → Writer → ℕ → List ℕ → Type 0
+WritesRun options threads before after output output' ended told =
+    WritesOutput (running options threads before after) output output' ended told × (after.reads ≤ 2 ^ 24)
 
--- a service where one is asked for, else a run
-abbrev pub EndsSo : Bool → RunOptions → Bool → Reader → Reader → Writer → Writer → ℕ → Type 0
-EndsSo true options threads before after output output' ended = EndsService options before after output output' ended
-EndsSo false options threads before after output output' ended = WritesRun options threads before after output output' ended
+-- a service where one is asked for, beside which nothing is told, else a run
+abbrev pub EndsSo : Bool → RunOptions → Bool → Reader → Reader → Writer → Writer → ℕ → List ℕ → Type 0
+EndsSo true options threads before after output output' ended told = EndsService options before after output output' ended × (told ≡ [])
+EndsSo false options threads before after output output' ended told = WritesRun options threads before after output output' ended told
 
-abbrev pub EndsAsAsked : Request → Reader → Reader → Writer → Writer → ℕ → Type 0
-EndsAsAsked r before after output output' ended = EndsSo r.live r.options r.threads before after output output' ended
+abbrev pub EndsAsAsked : Request → Reader → Reader → Writer → Writer → ℕ → List ℕ → Type 0
+EndsAsAsked r before after output output' ended told = EndsSo r.live r.options r.threads before after output output' ended told
+
+-- what is told beside an output is written to standard error, or a prefix of it where a write fails; and nothing where nothing is told
+pub record TellsBeside (told : List ℕ) (errors errors' : Writer) : Type 0 where
+  pub wrote : Took errors errors' told ⊎ TookPrefix errors errors' told WriteFailed
+  pub silent : told ≡ [] → errors' ≡ errors
 
 abbrev pub RunsAsAsked : Request → Streams → ℕ → Type 0
-RunsAsAsked r s ended = EndsAsAsked r s.before s.after s.output s.output' ended × (s.errors' ≡ s.errors)
+RunsAsAsked r s ended = (told : List ℕ) × EndsAsAsked r s.before s.after s.output s.output' ended told × TellsBeside told s.errors s.errors'
 
 -- a text on the output, and nothing was read
 abbrev pub PrintsText : List ℕ → Streams → ℕ → Type 0

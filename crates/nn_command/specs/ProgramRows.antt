@@ -10,13 +10,15 @@ use Rattle.nn_types.specs.Fault.{fault_name}
 use Rattle.nn_types.specs.Settings.{Settings}
 use Rattle.nn_scenario.specs.Cut.{segments_from, parts_from}
 use Rattle.nn_scenario.specs.Scenario.{Scenario, scenario_of, scenario_with, lines_from}
+use Rattle.nn_input.specs.declared.fault.InputFault.TheVariants.{ReadFailed}
 use Rattle.nn_run.specs.Output.{Printed, AreEventsOf, output_of, with_history}
+use Rattle.nn_run.specs.Run.{Given, unread}
 use Rattle.nn_run.specs.Start.{from_root}
 use Rattle.nn_run.specs.declared.engine.Options.{Options as RunOptions}
 use Rattle.nn_command.specs.declared.program.ArgumentsFault.TheVariants.{NotText, OutOfMemory}
 use Rattle.nn_command.specs.declared.options.Request.{Request}
 use Rattle.nn_command.specs.Options.{settings_line, lanes_line, command_line, ReadsAs, IsNumberOf, IsCapacity, AreReadAs, IsFlag, IsRequest, AskAs, is_contradictory}
-use Rattle.nn_command.specs.Program.{Streams, Serves, AreTaken, WritesText, RunsAsAsked, WritesRun, Helps, RefusesCommand, Explains, LacksMemory, ServesNone, TellsOf, explanation_line, memory_line, version_line}
+use Rattle.nn_command.specs.Program.{Streams, Serves, AreTaken, TellsBeside, WritesOutput, WritesText, RunsAsAsked, WritesRun, Helps, RefusesCommand, Explains, LacksMemory, ServesNone, TellsOf, explanation_line, memory_line, version_line}
 
 -- ---- Texts as numbers and flags.
 
@@ -231,14 +233,38 @@ not_told_on_errors output h = let e : 3 ≡ 0 = ap (λ (w : Writer). w.taken) h.
 not_told_after_a_read : (output : Writer) → LacksMemory (all 3 output nothing) 1 → ⊥
 not_told_after_a_read output h = let e : 3 ≡ 0 = ap (λ (r : Reader). r.given) h.2 in omega (arith, e)
 
--- a run tells nothing on errors
-not_run_with_errors : (r : Request) (output : Writer) (ended : ℕ) → RunsAsAsked r (all 0 output (writer text false)) ended → ⊥
-not_run_with_errors r output ended h = let e : 3 ≡ 0 = ap (λ (w : Writer). w.taken) h.1 in omega (arith, e)
+-- what is told beside an output is on errors, or a prefix of it where a write failed
+told_beside : TellsBeside text nothing (writer text false)
+told_beside = record { wrote = inl (record { bytes = refl; counted = refl; unfailed = refl }); silent = λ e. absurd (cc) }
 
--- nor does it ask its reader without end
-not_run_without_end : (options : RunOptions) (threads : Bool) (before : Reader) (output output' : Writer) (ended : ℕ)
-    → WritesRun options threads before (record before { reads = 16777217 }) output output' ended → ⊥
-not_run_without_end options threads before output output' ended h = omega (arith, h.1)
+told_a_prefix : TellsBeside text nothing (writer (codes "ab") true)
+told_a_prefix = record {
+  wrote = inr (record { prefix = codes "ab"; rest = codes "c"; whole = refl; short = omega arith; bytes = refl; counted = refl; caused = refl });
+  silent = λ e. absurd (cc);
+}
+
+not_left_out : TellsBeside text nothing nothing → ⊥
+not_left_out h = ⊎_elim (λ k. let e : 0 ≡ 3 = k.counted in omega (arith, e)) (λ k. true≢false (sym k.caused)) h.wrote
+
+-- and where nothing is to be told, nothing is
+nothing_beside : TellsBeside [] nothing nothing
+nothing_beside = record { wrote = inl (record { bytes = refl; counted = refl; unfailed = refl }); silent = λ _. refl }
+
+not_something_beside : TellsBeside [] nothing (writer text false) → ⊥
+not_something_beside h = let e : 3 ≡ 0 = ap (λ (w : Writer). w.taken) (h.silent refl) in omega (arith, e)
+
+-- a service tells nothing there
+silent_service : (r : Request) (s : Streams) (ended : ℕ) → RunsAsAsked (record r { live = true }) s ended → s.errors' ≡ s.errors
+silent_service r s ended h = h.2.silent h.1.1
+
+-- nor does a run of whose output a write failed
+silent_behind_a_failed_write : (given : Given) (got told : List ℕ) (ended : ℕ) → WritesOutput given nothing (writer got true) ended told → told ≡ []
+silent_behind_a_failed_write given got told ended h = ⊎_elim (λ k. absurd (true≢false k.took.unfailed)) (λ k. k.3) h
+
+-- a run does not ask its reader without end
+not_run_without_end : (options : RunOptions) (threads : Bool) (before : Reader) (output output' : Writer) (ended : ℕ) (told : List ℕ)
+    → WritesRun options threads before (record before { reads = 16777217 }) output output' ended told → ⊥
+not_run_without_end options threads before output output' ended told h = omega (arith, h.1)
 
 -- ---- Where there are no arguments, and where they ask for none.
 
@@ -339,15 +365,57 @@ serves_a_run = inl (
   usual_asked,
   refl,
   (
+    [],
     (
       inl (record {
         output = printed_for_nothing;
         right = inl (record { input = []; taken = refl; counted = refl; whole = refl; fits = omega arith; is = record { events = []; happened = nothing_read; is = refl } }, refl);
         took = record { bytes = refl; counted = omega arith; unfailed = refl };
         ends = refl;
+        told = refl;
       }),
       omega arith,
     ),
-    refl,
+    nothing_beside,
+  ),
+)
+
+-- ---- A run whose input can't be read: one line on the output, and one on errors.
+
+abbrev fault_line : List ℕ
+fault_line = codes "fault 8" ++ line_feed ∷ []
+
+abbrev error_line : List ℕ
+error_line = codes "error: the input could not be read (fault 8; --explain 8 says more)" ++ line_feed ∷ []
+
+abbrev run_unread : Streams
+run_unread = record {
+  before = at_its_end;
+  after = record at_its_end { failed = true };
+  output = nothing;
+  output' = writer fault_line false;
+  errors = nothing;
+  errors' = writer error_line false;
+}
+
+serves_a_fault : Serves program_alone run_unread 1
+serves_a_fault = inl (
+  usual_request,
+  usual_settings,
+  usual_asked,
+  refl,
+  (
+    error_line,
+    (
+      inl (record {
+        output = unread ReadFailed;
+        right = inr (ReadFailed, refl, refl);
+        took = record { bytes = refl; counted = refl; unfailed = refl };
+        ends = refl;
+        told = refl;
+      }),
+      omega arith,
+    ),
+    record { wrote = inl (record { bytes = refl; counted = refl; unfailed = refl }); silent = λ e. absurd (cc) },
   ),
 )

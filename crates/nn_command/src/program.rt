@@ -1,17 +1,17 @@
 //! What the program does for its arguments, over any reader and writers.
-ghost use Rattle.std.specs.Prelude.{◌≡◌, ◌≤◌, ◌⊎◌, ℕ, List, false, IfOk, IfErr, IfSome, map, string_bytes};
+ghost use Rattle.std.specs.Prelude.{◌≡◌, ◌≤◌, ◌⊎◌, ℕ, List, None, IfOk, IfErr, IfSome, map, string_bytes};
 ghost use Rattle.nn_device.specs.Device.{Took, FailedToWrite};
 ghost use Rattle.clap.specs.Words.{kind_of};
-ghost use Rattle.nn_run.specs.Run.{running};
-ghost use Rattle.nn_command.specs.Program.{EndsAsAsked, WritesRun, EndsService, Explains, LacksMemory, Serves, ServesNone, TellsOf, WritesText, explanation_line, memory_line, no_reader, streams, version_line};
+ghost use Rattle.nn_run.specs.Run.{error_of};
+ghost use Rattle.nn_command.specs.Program.{EndsAsAsked, WritesRun, EndsService, Explains, LacksMemory, Serves, ServesNone, TellsBeside, TellsOf, WritesText, explanation_line, memory_line, no_reader, streams, version_line};
 ghost use Rattle.nn_types.specs.Limits.{max_capacity};
 
 use crate::options;
 use crate::options::{Request, VERSION};
 use clap::error::ErrorKind;
-use nn_device::{Reader, Writer};
+use nn_device::{Page, Reader, Writer};
 use nn_live::{LiveOptions, run_live};
-use nn_run::{Gate, Options, ThreadOptions, run, run_threads};
+use nn_run::{Gate, Options, RunEnd, RunFailure, ThreadOptions, run, run_threads};
 use nn_types::fault::explanation;
 use std::alloc::{AllocError, Global};
 use std::io::{Read, Write};
@@ -44,6 +44,8 @@ pub enum ArgumentsFault {
 /// Answers the status that the process is to end with: 0 after a listing, the help, the version or the meaning of a
 /// fault; 1 after a fault line or a failed write; 2 where the arguments are refused, with a message on `errors`.
 ///
+/// A fault that ends a run is told on `errors` too, in words. A write that fails there changes neither the output nor the status.
+///
 /// With `--live` it serves: it takes lines and answers words as they come. The status is 0 at the end of its input, or 1 where the
 /// log was stopped.
 ///
@@ -75,7 +77,22 @@ pub fn serve<R: Read, W: Write, E: Write, G: Gate + Send + Sync + Drop, T: Threa
     if let Some(number) = request.explain {
         return explain(alloc, number, output, errors);
     }
-    run_as_asked(rt, alloc, &request, input, output, gate)
+    let run_end = run_as_asked(rt, alloc, &request, input, output, gate);
+    tell_beside(alloc, run_end.fault, errors);
+    run_end.status
+}
+
+// Tells what ended a run, beside its output. It takes no memory.
+fn tell_beside<E: Write>(alloc: Global, failure: Option<RunFailure>, errors: &mut Writer<E>)
+    ensures { TellsBeside (error_of failure) errors.old errors.new }
+{
+    let Some(failure) = failure else {
+        return;
+    };
+    let mut page = Page::new(alloc);
+    failure.put_error(&mut page, errors);
+    // The fault line has told it already, so that a write that fails changes nothing.
+    let _ = page.end(errors);
 }
 
 // What the fault with this number means, or that there is none.
@@ -111,9 +128,9 @@ fn run_as_asked<R: Read, W: Write, G: Gate + Send + Sync + Drop, T: Threads + Wa
     input: &mut Reader<R>,
     output: &mut Writer<W>,
     gate: Arc<G, Global>,
-) -> u8
+) -> RunEnd
     requires { IfSome request.now.capacity (λ n. (1 ≤ n) × (n ≤ max_capacity)) }
-    ensures { EndsAsAsked request.now input.old input.new output.old output.new result }
+    ensures { EndsAsAsked request.now input.old input.new output.old output.new result.status (error_of result.fault) }
 {
     if request.live {
         return run_service(alloc, &request.options, input, output);
@@ -127,19 +144,20 @@ fn run_as_asked<R: Read, W: Write, G: Gate + Send + Sync + Drop, T: Threads + Wa
         gate,
     };
     match run_threads(rt, alloc, &asked, input, output) {
-        Ok(end) => end.status,
-        Err(_) => FAILED,
+        Ok(run_end) => run_end,
+        Err(_) => unwritten(),
     }
 }
 
-// A service, which takes lines as they come.
+// A service, which takes lines as they come. It tells its faults among its answers.
 fn run_service<R: Read, W: Write>(
     alloc: Global,
     options: &Options,
     input: &mut Reader<R>,
     output: &mut Writer<W>,
-) -> u8
-    ensures { EndsService options.now input.old input.new output.old output.new result }
+) -> RunEnd
+    ensures service { EndsService options.now input.old input.new output.old output.new result.status }
+    ensures silent { result.fault ≡ None }
 {
     let asked = LiveOptions {
         settings: options.settings,
@@ -149,8 +167,11 @@ fn run_service<R: Read, W: Write>(
         leave_memory: options.leave_memory,
     };
     match run_live(alloc, &asked, input, output) {
-        Ok(end) => end.status,
-        Err(_) => FAILED,
+        Ok(end) => RunEnd {
+            status: end.status,
+            fault: None,
+        },
+        Err(_) => unwritten(),
     }
 }
 
@@ -159,12 +180,23 @@ fn run_plain<R: Read, W: Write>(
     options: &Options,
     input: &mut Reader<R>,
     output: &mut Writer<W>,
-) -> u8
-    ensures { WritesRun options.now false input.old input.new output.old output.new result }
+) -> RunEnd
+    ensures { WritesRun options.now false input.old input.new output.old output.new result.status (error_of result.fault) }
 {
     match run(alloc, options, input, output) {
-        Ok(run_end) => run_end.status,
-        Err(_) => FAILED,
+        Ok(run_end) => run_end,
+        Err(_) => unwritten(),
+    }
+}
+
+// How a run ends of whose output not all was written.
+fn unwritten() -> RunEnd
+    ensures { result ≡ record { status = 1; fault = None } }
+{
+    let fault = None;
+    RunEnd {
+        status: FAILED,
+        fault,
     }
 }
 

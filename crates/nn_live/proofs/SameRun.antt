@@ -117,7 +117,7 @@ module _ (asked : LiveSetup) (leave : Bool) (texts : List (List ℕ)) where
   no_history : (events : History) (p : Printed) → with_history false events p ≡ p
   no_history events p = at (p.status == 0)
     where
-      at : (b : Bool) → cond (b && false) (record { text = history_text events ++ p.text; status = 0 }) p ≡ p
+      at : (b : Bool) → cond (b && false) (record { text = history_text events ++ p.text; status = 0; error = [] }) p ≡ p
       at true = refl
       at false = refl
 

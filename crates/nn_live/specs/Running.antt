@@ -2,7 +2,7 @@
 use Rattle.std.specs.Prelude.{◌≡◌, ◌⊎◌, ◌+◌, ◌^◌, ◌≤◌, ◌++◌, [], ℕ, Bool, true, List, length, Option, Some, None}
 use Rattle.std.specs.Io.KnownBytes.{Consumes, IsAtEnd}
 use Rattle.nn_device.specs.Device.{Reader, Writer, Took}
-use Rattle.nn_run.specs.Output.{Printed, image_fault}
+use Rattle.nn_run.specs.Output.{image_fault}
 use Rattle.nn_run.specs.Run.{Unfinished, unread_line}
 use Rattle.nn_input.specs.declared.fault.InputFault.TheVariants.{ReadFailed, OutOfMemory}
 use Rattle.nn_run.specs.declared.output.RunFault.{RunFault}
@@ -53,12 +53,17 @@ pub record IsToldAtOnce (o : LiveOptions) (bytes told : List ℕ) : Type 0 where
   pub one_read : length last ≤ most_read
   pub before : IsPrefixOf (told_so_far (asked_by o) o.from_image earlier) told
 
+-- a text and the program's exit status. A service tells its faults there, and nothing on standard error
+pub record LiveOutput : Type 0 where
+  pub text : List ℕ
+  pub status : ℕ
+
 -- the text of a whole input, and the status behind it
-abbrev pub live_output : LiveOptions → List ℕ → Printed
+abbrev pub live_output : LiveOptions → List ℕ → LiveOutput
 live_output o input = record { text = live_text (asked_by o) o.from_image input; status = exit_status (stage_at_end (asked_by o) o.from_image input) }
 
 -- The input ended, and this is its output.
-pub record IsOfWhole (run : Run) (p : Printed) : Type 0 where
+pub record IsOfWhole (run : Run) (p : LiveOutput) : Type 0 where
   pub input : List ℕ
   pub gave : GaveBytes run.before run.after input
   pub whole : IsAtEnd run.after.left
@@ -66,7 +71,7 @@ pub record IsOfWhole (run : Run) (p : Printed) : Type 0 where
   pub is : p ≡ live_output run.options input
 
 -- A line came that no image has, by the last read: whatever follows it, this is the output.
-pub record IsOfRefused (run : Run) (p : Printed) : Type 0 where
+pub record IsOfRefused (run : Run) (p : LiveOutput) : Type 0 where
   pub bytes : List ℕ
   pub gave : GaveBytes run.before run.after bytes
   pub at_once : IsToldAtOnce run.options bytes []
@@ -78,7 +83,7 @@ abbrev pub IsCutOff : Reader → Reader → Type 0
 IsCutOff before after = (after.refused ≡ true) ⊎ ((before.failed ≡ true) ⊎ (2 ^ 62 ≤ after.given))
 
 -- A read failed. What the lines so far say was told, and then that.
-pub record IsOfFailedRead (run : Run) (p : Printed) : Type 0 where
+pub record IsOfFailedRead (run : Run) (p : LiveOutput) : Type 0 where
   pub bytes : List ℕ
   pub gave : GaveBytes run.before run.after bytes
   pub failed : run.after.failed ≡ true
@@ -108,7 +113,7 @@ IsUntaken run bytes told =
 
 -- Memory was refused, or a count had come to its end. Some line was not taken. What was told before is with the lines of the last read, or
 -- before the first one; and then that.
-pub record IsOfNoMemory (run : Run) (p : Printed) : Type 0 where
+pub record IsOfNoMemory (run : Run) (p : LiveOutput) : Type 0 where
   pub bytes : List ℕ
   pub gave : GaveBytes run.before run.after bytes
   pub none_failed : NoReadFailed run
@@ -117,12 +122,12 @@ pub record IsOfNoMemory (run : Run) (p : Printed) : Type 0 where
   pub at_once : IsToldAtOnce run.options bytes told
   pub is : p ≡ record { text = told ++ unread_line OutOfMemory; status = 1 }
 
-abbrev pub IsLiveOutput : Run → Printed → Type 0
+abbrev pub IsLiveOutput : Run → LiveOutput → Type 0
 IsLiveOutput run p = IsOfWhole run p ⊎ (IsOfRefused run p ⊎ (IsOfFailedRead run p ⊎ IsOfNoMemory run p))
 
 -- an output was written whole, and this is its status
 pub record WroteLive (run : Run) (writer writer' : Writer) (status : ℕ) : Type 0 where
-  pub output : Printed
+  pub output : LiveOutput
   pub right : IsLiveOutput run output
   pub took : Took writer writer' output.text
   pub ends : status ≡ output.status
@@ -136,7 +141,7 @@ pub record IsSoFar (run : Run) (text : List ℕ) : Type 0 where
 -- a write failed: a prefix of an output was written, or of what the lines so far say
 pub record WroteLivePrefix (run : Run) (writer writer' : Writer) (fault : RunFault) : Type 0 where
   pub text : List ℕ
-  pub right : ((output : Printed) × IsLiveOutput run output × (text ≡ output.text)) ⊎ IsSoFar run text
+  pub right : ((output : LiveOutput) × IsLiveOutput run output × (text ≡ output.text)) ⊎ IsSoFar run text
   pub prefix : Unfinished writer writer' text fault
 
 -- ---- For private clauses.

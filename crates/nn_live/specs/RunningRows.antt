@@ -8,9 +8,8 @@ use Rattle.std.specs.Str.{is_utf8, chars}
 use Rattle.nn_bytes.specs.Lines.{line_feed}
 use lib.Utf8.{encode}
 use Rattle.nn_device.specs.Device.{Reader, Writer}
-use Rattle.nn_run.specs.Output.{Printed}
 use Rattle.nn_live.specs.Live.{takes, takes_pieces, takes_torn, told_so_far}
-use Rattle.nn_live.specs.Running.{IsOfFailedRead, IsOfNoMemory, IsOfRefused, IsOfWhole, IsSoFar, IsToldAtOnce, IsUntaken, LacksEnd, WroteLive, WroteLivePrefix, asked_by, live_output, lines_say, serving_by, torn_of}
+use Rattle.nn_live.specs.Running.{LiveOutput, IsOfFailedRead, IsOfNoMemory, IsOfRefused, IsOfWhole, IsSoFar, IsToldAtOnce, IsUntaken, LacksEnd, WroteLive, WroteLivePrefix, asked_by, live_output, lines_say, serving_by, torn_of}
 use Rattle.nn_live.specs.Serving.{IsPrefixOf}
 use Rattle.nn_live.specs.Taking.{LacksLine}
 use Rattle.nn_live.specs.Words.{word_alone, word_in}
@@ -32,7 +31,7 @@ unread = reader sync 0 false
 abbrev at_its_end : Reader
 at_its_end = reader [] 5 false
 
-abbrev printed : List ℕ → ℕ → Printed
+abbrev printed : List ℕ → ℕ → LiveOutput
 printed text status = record { text = text; status = status }
 
 none_behind : (a b : List ℕ) → a ≡ a ++ b → b ≡ []
@@ -126,36 +125,36 @@ module _ (o : LiveOptions) where
   whole : IsOfWhole (serving_by root unread at_its_end) (printed done 0)
   whole = record { input = sync; gave = record { taken = refl; counted = refl }; whole = refl; none_failed = refl; is = sym one_answer }
 
-  not_of_a_part : (p : Printed) → IsOfWhole (serving_by root unread (reader (codes "c") 4 false)) p → ⊥
+  not_of_a_part : (p : LiveOutput) → IsOfWhole (serving_by root unread (reader (codes "c") 4 false)) p → ⊥
   not_of_a_part p h = let e : codes "c" ≡ [] = h.whole in absurd (cc)
 
-  not_behind_a_failed_read : (p : Printed) → IsOfWhole (serving_by root unread (reader [] 5 true)) p → ⊥
+  not_behind_a_failed_read : (p : LiveOutput) → IsOfWhole (serving_by root unread (reader [] 5 true)) p → ⊥
   not_behind_a_failed_read p h = true≢false h.none_failed
 
-  not_of_other_bytes : (p : Printed) (h : IsOfWhole (serving_by root unread at_its_end) p) → length h.input ≡ 4 → ⊥
+  not_of_other_bytes : (p : LiveOutput) (h : IsOfWhole (serving_by root unread at_its_end) p) → length h.input ≡ 4 → ⊥
   not_of_other_bytes p h four = let e : 5 ≡ 0 + length h.input = h.gave.counted in omega (arith, e, four)
 
-  input_is : (p : Printed) (h : IsOfWhole (serving_by root unread at_its_end) p) → h.input ≡ sync
+  input_is : (p : LiveOutput) (h : IsOfWhole (serving_by root unread at_its_end) p) → h.input ≡ sync
   input_is p h = sym (h.gave.taken ∙ append-nil h.input)
 
   not_with_another_status : IsOfWhole (serving_by root unread at_its_end) (printed done 1) → ⊥
   not_with_another_status h =
-      let e : 1 ≡ 0 = ap (λ (p : Printed). p.status) (h.is ∙ ap (live_output root) (input_is (printed done 1) h) ∙ one_answer) in
+      let e : 1 ≡ 0 = ap (λ (p : LiveOutput). p.status) (h.is ∙ ap (live_output root) (input_is (printed done 1) h) ∙ one_answer) in
       omega (arith, e)
 
   not_with_another_text : IsOfWhole (serving_by root unread at_its_end) (printed [] 0) → ⊥
   not_with_another_text h =
-      let e : [] ≡ done = ap (λ (p : Printed). p.text) (h.is ∙ ap (live_output root) (input_is (printed [] 0) h) ∙ one_answer) in
+      let e : [] ≡ done = ap (λ (p : LiveOutput). p.text) (h.is ∙ ap (live_output root) (input_is (printed [] 0) h) ∙ one_answer) in
       absurd (cc)
 
   -- what would say more of a longer input is no refusal
-  not_refused : (p : Printed) → IsOfRefused (serving_by root (reader [] 0 false) (reader [] 0 false)) p → ⊥
+  not_refused : (p : LiveOutput) → IsOfRefused (serving_by root (reader [] 0 false) (reader [] 0 false)) p → ⊥
   unfolding takes_pieces takes_torn
   not_refused p h =
       let none : h.bytes ≡ [] = sym (h.gave.taken ∙ append-nil h.bytes) in
       let short : p ≡ live_output root [] = h.is [] ∙ ap (λ b. live_output root (b ++ [])) none in
       let long : p ≡ live_output root sync = h.is sync ∙ ap (λ b. live_output root (b ++ sync)) none in
-      let e : [] ≡ done = ap (λ (q : Printed). q.text) (sym short ∙ long ∙ one_answer) in
+      let e : [] ≡ done = ap (λ (q : LiveOutput). q.text) (sym short ∙ long ∙ one_answer) in
       absurd (cc)
 
   -- ---- What is told before another read.
@@ -182,11 +181,11 @@ module _ (o : LiveOptions) where
   failed_read : IsOfFailedRead (serving_by root unread (reader [] 5 true)) (printed (done ++ (codes "fault 8" ++ line_feed ∷ [])) 1)
   failed_read = record { bytes = sync; gave = record { taken = refl; counted = refl }; failed = refl; why = inl refl; is = ap (λ t. printed (t ++ (codes "fault 8" ++ line_feed ∷ [])) 1) (sym told_yet) }
 
-  not_where_none_failed : (p : Printed) → IsOfFailedRead (serving_by root unread at_its_end) p → ⊥
+  not_where_none_failed : (p : LiveOutput) → IsOfFailedRead (serving_by root unread at_its_end) p → ⊥
   not_where_none_failed p h = true≢false (sym h.failed)
 
   -- no read fails of itself
-  not_of_itself : (p : Printed) → IsOfFailedRead (serving_by root unread (record (reader [] 5 true) { refused = false })) p → ⊥
+  not_of_itself : (p : LiveOutput) → IsOfFailedRead (serving_by root unread (record (reader [] 5 true) { refused = false })) p → ⊥
   not_of_itself p h = by h.why
     where
       by : (false ≡ true) ⊎ ((false ≡ true) ⊎ (2 ^ 62 ≤ 5)) → ⊥
@@ -248,7 +247,7 @@ module _ (o : LiveOptions) where
       bytes = sym (h.gave.taken ∙ append-nil h.bytes)
 
       told : h.told ≡ done
-      told = append_cancel_right h.told done (codes "fault 55" ++ line_feed ∷ []) (ap (λ (p : Printed). p.text) (sym h.is))
+      told = append_cancel_right h.told done (codes "fault 55" ++ line_feed ∷ []) (ap (λ (p : LiveOutput). p.text) (sym h.is))
 
       by_line : LacksLine (lines_say root) h.bytes h.told → ⊥
       by_line l =
@@ -265,7 +264,7 @@ module _ (o : LiveOptions) where
           let said : lines_say root h.bytes ≡ done = ap (lines_say root) bytes ∙ told_yet in
           let part : l.part ≡ [] = none_behind done l.part (sym told ∙ l.begins ∙ ap (λ t. t ++ l.part) said) in
           let text : done ≡ done ++ l.cut.rest =
-          sym (ap (λ (p : Printed). p.text) one_answer) ∙ ap (λ b. (live_output root b).text) (sym bytes) ∙ l.cut.is
+          sym (ap (λ (p : LiveOutput). p.text) one_answer) ∙ ap (λ b. (live_output root b).text) (sym bytes) ∙ l.cut.is
           ∙ ap₂ (λ a b. (a ++ b) ++ l.cut.rest) said part ∙ ap (λ t. t ++ l.cut.rest) (append-nil done) in
           l.torn (none_behind done l.cut.rest text) (ap (torn_of root) bytes ∙ none_torn)
 
@@ -274,7 +273,7 @@ module _ (o : LiveOptions) where
       by (inr (inl line)) = by_line line
       by (inr (inr end)) = by_end end.1
 
-  not_after_a_failed_read : (p : Printed) → IsOfNoMemory (serving_by root unread (reader [] 5 true)) p → ⊥
+  not_after_a_failed_read : (p : LiveOutput) → IsOfNoMemory (serving_by root unread (reader [] 5 true)) p → ⊥
   not_after_a_failed_read p h = true≢false h.none_failed
 
   -- of a last line that lacks its line feed not all was told, once the input has ended
@@ -295,7 +294,7 @@ module _ (o : LiveOptions) where
     begins = sym (ap (λ t. t ++ codes "fault 1") nothing_yet);
     cut = record {
       rest = codes " line 1" ++ line_feed ∷ [];
-      is = ap (λ (p : Printed). p.text) torn_answer ∙ sym (ap (λ t. (t ++ codes "fault 1") ++ (codes " line 1" ++ line_feed ∷ [])) nothing_yet);
+      is = ap (λ (p : LiveOutput). p.text) torn_answer ∙ sym (ap (λ t. (t ++ codes "fault 1") ++ (codes " line 1" ++ line_feed ∷ [])) nothing_yet);
       short = λ e. absurd (cc);
     };
     torn = λ e. absurd (cc);
@@ -305,7 +304,7 @@ module _ (o : LiveOptions) where
   not_all_of_it l =
       let part : l.part ≡ fault_1 = sym (ap (λ t. t ++ l.part) nothing_yet) ∙ sym l.begins in
       let text : fault_1 ≡ fault_1 ++ l.cut.rest =
-      sym (ap (λ (p : Printed). p.text) torn_answer) ∙ l.cut.is ∙ ap₂ (λ a b. (a ++ b) ++ l.cut.rest) nothing_yet part in
+      sym (ap (λ (p : LiveOutput). p.text) torn_answer) ∙ l.cut.is ∙ ap₂ (λ a b. (a ++ b) ++ l.cut.rest) nothing_yet part in
       let none : fault_1 ≡ [] = sym part ∙ l.cut.short (none_behind fault_1 l.cut.rest text) in
       absurd (cc)
 

@@ -31,8 +31,12 @@ use Rattle.nn_live.specs.Words.{word_alone, word_in}
 abbrev ran : LiveSetup → List (List ℕ) → Printed
 ran asked each = output_of from_root (tables_alone asked true) (joined_lines each)
 
-abbrev printed : ℕ → List (List ℕ) → Printed
-printed status each = record { text = lines each; status = status }
+abbrev listed : List (List ℕ) → Printed
+listed each = record { text = lines each; status = 0; error = [] }
+
+-- a fault line, and the line that goes to standard error
+abbrev faulted : List ℕ → List ℕ → Printed
+faulted line error = record { text = lines (line ∷ []); status = 1; error = lines (error ∷ []) }
 
 -- a report that came before the edit that names its block, a blank line, a segment that overlaps the one before, and a report that is held
 -- to the end
@@ -61,7 +65,7 @@ shown =
 abbrev strict : LiveSetup
 strict = record { permille = 1000; min = 2; history = true; version = codes "1.2.3" }
 
-run_of_a_closed_file : ran (asks false) closed_file ≡ printed 0 (codes "txid 8" ∷ (shown ++ codes "blocks 1 safe 1 needed 0 mode off" ∷ []))
+run_of_a_closed_file : ran (asks false) closed_file ≡ listed (codes "txid 8" ∷ (shown ++ codes "blocks 1 safe 1 needed 0 mode off" ∷ []))
 unfolding output_of read_segment fault_of_segment txids_of segment_file_name name_digits reads_of edit_of_line end_of_txs scenario_of lines_from segments_from parts_from end_of_log digits escape_byte datanodes either_of_line either_in report_in dn_in kind_in kind_of object_in value_of tx_in op_in op_of txid_in whole_in number_in path_in profile_in edit_in blocks_in items_in block_in is_utf8 chars encode value punctuate lex content word after_number number_of scan_numeral
 run_of_a_closed_file = refl
 
@@ -79,7 +83,7 @@ served_as_that_run = record {
 }
 
 -- the settings count, and where the history is asked for it comes first
-run_of_strict_settings : ran strict closed_file ≡ printed 0 (codes "txid 8" ∷ (shown ++ codes "blocks 1 safe 0 needed 1 mode on" ∷ []))
+run_of_strict_settings : ran strict closed_file ≡ listed (codes "txid 8" ∷ (shown ++ codes "blocks 1 safe 0 needed 1 mode on" ∷ []))
 unfolding output_of read_segment fault_of_segment txids_of segment_file_name name_digits reads_of edit_of_line end_of_txs scenario_of lines_from segments_from parts_from end_of_log digits escape_byte datanodes either_of_line either_in report_in dn_in kind_in kind_of object_in value_of tx_in op_in op_of txid_in whole_in number_in path_in profile_in edit_in blocks_in items_in block_in is_utf8 chars encode value punctuate lex content word after_number number_of scan_numeral
 run_of_strict_settings = refl
 
@@ -96,7 +100,7 @@ served_with_strict_settings = refl
 abbrev gap : List (List ℕ)
 gap = codes "{\"op\":\"OP_START_LOG_SEGMENT\",\"txid\":2}" ∷ codes "{\"op\":\"OP_END_LOG_SEGMENT\",\"txid\":3}" ∷ []
 
-run_of_a_gap : ran (asks false) gap ≡ printed 1 (codes "fault 57 txid 1" ∷ [])
+run_of_a_gap : ran (asks false) gap ≡ faulted (codes "fault 57 txid 1") (codes "error: txid 1: the transaction is missing (fault 57; --explain 57 says more)")
 unfolding output_of read_segment fault_of_segment txids_of segment_file_name name_digits reads_of edit_of_line end_of_txs scenario_of lines_from segments_from parts_from end_of_log digits escape_byte datanodes either_of_line either_in report_in dn_in kind_in kind_of object_in value_of tx_in op_in op_of txid_in whole_in number_in path_in profile_in edit_in blocks_in items_in block_in is_utf8 chars encode value punctuate lex content word after_number number_of scan_numeral
 run_of_a_gap = refl
 
@@ -106,7 +110,8 @@ unfolding takes takes_all takes_torn takes_pieces word_in word_alone read_segmen
 served_behind_a_gap = refl
 
 -- a word is no line of a run
-run_of_a_word : ran (asks false) (codes "sync" ∷ []) ≡ printed 1 (codes "fault 1 line 1" ∷ [])
+run_of_a_word : ran (asks false) (codes "sync" ∷ [])
+    ≡ faulted (codes "fault 1 line 1") (codes "error: line 1: not a JSON object (fault 1; --explain 1 says more)")
 unfolding output_of read_segment fault_of_segment txids_of segment_file_name name_digits reads_of edit_of_line end_of_txs scenario_of lines_from segments_from parts_from end_of_log digits escape_byte datanodes either_of_line either_in report_in dn_in kind_in kind_of object_in value_of tx_in op_in op_of txid_in whole_in number_in path_in profile_in edit_in blocks_in items_in block_in is_utf8 chars encode value punctuate lex content word after_number number_of scan_numeral
 run_of_a_word = refl
 

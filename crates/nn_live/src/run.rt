@@ -107,7 +107,10 @@ fn finish<W: Write>(
     ensures prefix { IfErr result (λ fault. (start : WriterView) (text : List ℕ) → HasPut start text page writer.old → before ≡ start.taken → Unfinished start writer.new text fault) }
 {
     match page.end(writer) {
-        Ok(()) => Ok(RunEnd { status }),
+        Ok(()) => Ok(RunEnd {
+            status,
+            fault: None,
+        }),
         Err(_) => Err(unwritten(before, writer)),
     }
 }

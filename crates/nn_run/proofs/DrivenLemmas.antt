@@ -1,6 +1,6 @@
 -- From a drive over reports in memory to the lanes of a scenario and the end of its log.
 use Rattle.std.proofs.Common.{◌≡◌, ℕ, zero, suc, ◌+◌, ◌<◌, ◌≤◌, ◌^◌, List, [], ◌∷◌, ◌++◌, length, map, get_or, true, false, Option, Some, None, Result, Ok, Err, refl, sym, ap, ◌∙◌, subst, arith, length-append, append-nil}
-use Rattle.std.specs.Prelude.{MatchOption, codes}
+use Rattle.std.specs.Prelude.{MatchOption}
 use Rattle.std.specs.Iterator.{Yields}
 use Rattle.std.proofs.lemmas.List.{get_or_past}
 use Rattle.nn_types.specs.declared.report.Message.{Message}
@@ -28,10 +28,11 @@ use Rattle.nn_drive.proofs.Sends.{sent_long}
 use Rattle.nn_drive.specs.declared.driving.DriveFault.{DriveFault}
 use Rattle.nn_drive.specs.declared.driving.DriveFault.TheVariants as drive
 use Rattle.nn_lane_standby.specs.declared.standby.Active.{Active}
-use Rattle.nn_run.specs.InMemory.{GivesReport, AreInMemory, IsBegun, MayEnd, TellsStop}
+use Rattle.nn_run.specs.InMemory.{GivesReport, AreInMemory, IsBegun, MayEnd, TellsStop, cause_by, refusal_of}
 use Rattle.nn_run.specs.Start.{Start}
 use Rattle.nn_run.specs.declared.engine.Options.{Options}
-use Rattle.nn_run.specs.Output.{Printed, after_log, fault_at, with_history}
+use Rattle.nn_run.specs.Output.{Printed, after_log, log_fault, with_history}
+use Rattle.nn_run.proofs.FailureLemmas.{cause_told}
 use Rattle.nn_run.proofs.ToldLemmas.{is_fault}
 use Rattle.nn_run.specs.Shown.{HasFlushed, IsFaultOf, with_settings}
 
@@ -194,7 +195,7 @@ module _ (settings : Settings) (count : ℕ) (lanes : Lanes) (sources : List (Li
   stop_told options (drive.Stopped s) p h t =
       let order = in_order segments h.0 h.1.0 h.1.1 in
       let w = stopped_at start.namespace start.txid segments h.1.0 order s (h.1.2 [] start.namespace start.txid [] new.stands) in
-      is_fault options lanes (end_of_log start.txid start.namespace segments) (record { cause = w.0; txid = s.txid }) p w.2 (t ∙ ap (λ n. fault_at (codes " txid ") n s.txid) (sym w.1))
+      is_fault options lanes (end_of_log start.txid start.namespace segments) (record { cause = w.0; txid = s.txid }) p w.2 (t ∙ ap (λ cause. log_fault (record { cause = cause; txid = s.txid })) (ap (λ n. cause_by (refusal_of n)) (sym w.1) ∙ cause_told w.0))
   stop_told options (drive.LogNotEnded f) p h t = absurd t
   stop_told options drive.OutOfMemory p h t = absurd t
 

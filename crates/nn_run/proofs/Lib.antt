@@ -5,6 +5,7 @@ pub mod EndLemmas
 pub mod RunLemmas
 pub mod TurnLemmas
 pub mod ToldLemmas
+pub mod FailureLemmas
 pub mod TellLemmas
 pub mod WriteLemmas
 pub mod InMemoryLemmas

@@ -1,13 +1,10 @@
 -- What the lines of a text came to is what is printed for it.
-use Rattle.std.proofs.Common.{◌≡◌, ◌≢◌, ℕ, false, List, Ok, Err, codes, ◌∙◌, subst}
+use Rattle.std.proofs.Common.{◌≡◌, ◌≢◌, ℕ, false, List, Ok, Err, ◌∙◌, subst}
 use Rattle.nn_types.specs.declared.tx.Tx.{Tx}
-use Rattle.nn_edits.specs.Fault.{number_of as line_number_of}
 use Rattle.nn_edits.specs.declared.fault.LineFault.TheVariants.{OutOfMemory}
 use Rattle.nn_model.specs.History.{History}
 use Rattle.nn_model.specs.Lanes.{Lanes}
 use Rattle.nn_model.specs.Namespace.{Namespace}
-use Rattle.nn_segment.specs.Fault.{number_of as segment_number_of}
-use Rattle.nn_segment.specs.LogEnd.{stop_number}
 use Rattle.nn_shadow.specs.Calls.{with_past, flushed}
 use Rattle.nn_shadow.specs.Contents.{Shadow, standby_of}
 use Rattle.nn_shadow.specs.Laws.{StandsBy}
@@ -17,7 +14,7 @@ use Rattle.nn_run.specs.declared.engine.Options.{Options}
 use Rattle.nn_run.specs.declared.follower.LogFault.{LogFault}
 use Rattle.nn_run.specs.declared.following.BadInput.TheVariants as halt
 use Rattle.nn_run.specs.Following.{Lived, LinesComeTo, HasArrived, Stops, stop_of}
-use Rattle.nn_run.specs.Output.{Printed, IsPrintedFrom, after_log, fault_at, with_history}
+use Rattle.nn_run.specs.Output.{Printed, IsPrintedFrom, after_log, line_fault, log_fault, segment_fault, with_history}
 use Rattle.nn_run.specs.Ends.{BeginsAt}
 use Rattle.nn_run.specs.Shown.{with_settings}
 use Rattle.nn_run.specs.Start.{Start}
@@ -35,14 +32,14 @@ module _ (options : Options) (at : Start) (text : List ℕ) (first : Lived) (beg
       printed_of_told at false options text scenario p h.0.1
       (told_in_turn at options scenario x p arrived (h.1.min ∙ begins.min, h.1.permille ∙ begins.permille) told)
 
-  pub printed_of_line : (bad : ScenarioFault) → LinesComeTo first text (Err (halt.Line bad)) → (bad.fault ≢ OutOfMemory) × (p ≡ fault_at (codes " line ") (line_number_of bad.fault) bad.line)
+  pub printed_of_line : (bad : ScenarioFault) → LinesComeTo first text (Err (halt.Line bad)) → (bad.fault ≢ OutOfMemory) × (p ≡ line_fault bad)
       → IsPrintedFrom at false options text p
   printed_of_line bad h told = printed_of_bad at false options text bad p (h told.0) told.1
 
-  pub printed_of_segment : (bad : PartFault) → LinesComeTo first text (Err (halt.Segment bad)) → p ≡ fault_at (codes " segment ") (segment_number_of bad.fault) bad.segment
+  pub printed_of_segment : (bad : PartFault) → LinesComeTo first text (Err (halt.Segment bad)) → p ≡ segment_fault bad
       → IsPrintedFrom at false options text p
   printed_of_segment bad h told = printed_of_told at false options text h.0 p h.1 (told_bad_segment at options h.0 bad p h.2 told)
 
-  pub printed_of_stop : (fault : LogFault) → LinesComeTo first text (Err (halt.Log fault)) → p ≡ fault_at (codes " txid ") (stop_number (stop_of fault).cause) (stop_of fault).txid
+  pub printed_of_stop : (fault : LogFault) → LinesComeTo first text (Err (halt.Log fault)) → p ≡ log_fault (stop_of fault)
       → IsPrintedFrom at false options text p
   printed_of_stop fault h told = printed_of_told at false options text h.0 p h.1 (told_stop at options h.0 fault p (subst (λ s. Stops s h.0 fault) begins.at h.2) told)

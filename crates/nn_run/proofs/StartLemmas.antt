@@ -4,13 +4,11 @@ use Rattle.std.specs.Prelude.{IfOk, MatchResult}
 use Rattle.std.proofs.lemmas.Result.{IfOk-weaker}
 use Rattle.nn_image.specs.Reading.{read_image}
 use Rattle.nn_image.specs.declared.fault.ImageFault.{ImageFault}
-use Rattle.nn_image.specs.declared.fault.ImageFault.TheVariants as image
 use Rattle.nn_image.specs.declared.fault.ImageFault.TheVariants.{NotHeader}
 use Rattle.nn_model.specs.Namespace.{Namespace}
 use Rattle.nn_image.specs.Front.{Cut, divided, image_read}
 use Rattle.nn_run.specs.Input.{loaded_in}
 use Rattle.nn_run.specs.Output.{Printed, IsPrinted, IsPrintedFrom, image_fault}
-use Rattle.nn_run.specs.Pieces.{faulted}
 use Rattle.nn_run.specs.Start.{Start, from_cut, from_image, scenario_in, start_in}
 use Rattle.nn_run.specs.declared.engine.Options.{Options}
 
@@ -41,14 +39,3 @@ module _ (threads : Bool) (options : Options) (input : List ℕ) (p : Printed) w
 pub printed_from : {X E : Type 0} (shown : X → Printed) (threads : Bool) (options : Options) (input : List ℕ) (r : Result X E) (start : Start) → start_in options.from_image input ≡ Ok start
     → IfOk r (λ o. IsPrintedFrom start threads options (scenario_in options.from_image input) (shown o)) → IfOk r (λ o. IsPrinted threads options input (shown o))
 printed_from shown threads options input r start e h = IfOk-weaker r _ _ (λ o is. begun_so threads options input (shown o) start e is) h
-
--- the line of an image's fault is all that is printed of it
-pub image_faulted : (fault : ImageFault) → faulted (image_fault fault).text ≡ image_fault fault
-image_faulted image.NotHeader = refl
-image_faulted (image.BadLine line) = refl
-image_faulted (image.WrongOrder line) = refl
-image_faulted image.CountMismatch = refl
-image_faulted image.Truncated = refl
-image_faulted image.BadVersion = refl
-image_faulted image.ReadFault = refl
-image_faulted image.OutOfMemory = refl

@@ -34,7 +34,7 @@ StandsFlushed x y = (past : History) (start : Namespace) (base : ℕ) (txs : Lis
 
 -- a text behind a history
 behind : (asked : Bool) (events : History) (text : List ℕ)
-    → ◌≡◌ {A = Printed} (record { text = history_part asked events ++ text; status = 0 }) (with_history asked events (record { text = text; status = 0 }))
+    → ◌≡◌ {A = Printed} (record { text = history_part asked events ++ text; status = 0; error = [] }) (with_history asked events (record { text = text; status = 0; error = [] }))
 behind false events text = refl
 behind true events text = refl
 
@@ -63,7 +63,7 @@ listed_told options y lanes consistent h =
     let summary : summary_seen y ≡ summary_of y.permille y.table.min (items lanes) (standby_at_end lanes end) = summary_is y (items lanes) consistent said ∙ summarized y lanes h in
     let image = image_part options.image end in
     behind options.history y.history ((listing_text y.last y.namespace ++ held_tables y) ++ (summary_shown options.summary y ++ (unsafe_shown options.unsafe_blocks y ++ image)))
-    ∙ ap (λ tables. with_history options.history y.history (record { text = (listing_text y.last y.namespace ++ tables) ++ (summary_shown options.summary y ++ (unsafe_shown options.unsafe_blocks y ++ image)); status = 0 }))
+    ∙ ap (λ tables. with_history options.history y.history (record { text = (listing_text y.last y.namespace ++ tables) ++ (summary_shown options.summary y ++ (unsafe_shown options.unsafe_blocks y ++ image)); status = 0; error = [] }))
     (pictured y.permille y.table.min y.namespace (items lanes) y.table mode pictures)
     ∙ (λ j. with_history options.history y.history (record {
       text =
@@ -71,6 +71,7 @@ listed_told options y lanes consistent h =
           ++ ((if options.summary then summary_text (summary j) else [])
           ++ ((if options.unsafe_blocks then unsafe_text y.table.min (λ dn id. h.picture.replicas dn id j) y.namespace.rows else []) ++ image));
       status = 0;
+      error = [];
     }))
 
 -- after the flush it is told as before

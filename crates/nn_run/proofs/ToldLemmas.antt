@@ -1,12 +1,12 @@
 -- What is told of a log, of segments and of lines is what is printed for the input.
-use Rattle.std.proofs.Common.{◌≡◌, ℕ, Bool, false, List, [], Result, Ok, Err, codes, sym, ap, subst, ◌∙◌}
+use Rattle.std.proofs.Common.{◌≡◌, ℕ, Bool, false, List, [], Result, Ok, Err, sym, ap, subst, ◌∙◌}
 use Rattle.nn_types.specs.declared.tx.Tx.{Tx}
 use Rattle.nn_model.specs.History.{History}
 use Rattle.nn_model.specs.Lanes.{Lanes}
 use Rattle.nn_model.specs.Log.{log_of}
 use Rattle.nn_model.specs.Namespace.{Namespace}
 use Rattle.nn_model.specs.Stands.{StandbyState}
-use Rattle.nn_segment.specs.LogEnd.{LogEnd, LogStop, stop_number, end_of_log}
+use Rattle.nn_segment.specs.LogEnd.{LogEnd, LogStop, end_of_log}
 use Rattle.nn_segment.specs.Segment.{Segment}
 use Rattle.nn_shadow.specs.Calls.{with_past, flushed}
 use Rattle.nn_shadow.specs.Contents.{Shadow, standby_of}
@@ -22,7 +22,7 @@ use Rattle.nn_scenario.specs.declared.steps.Step.{Step}
 use Rattle.nn_run.specs.declared.engine.Options.{Options}
 use Rattle.nn_run.specs.declared.follower.LogFault.{LogFault}
 use Rattle.nn_run.specs.Following.{HasArrived, Stops, stop_of, txs_of}
-use Rattle.nn_run.specs.Output.{Printed, AreEventsOf, IsHistoryOf, IsPrintedFrom, after_lines, after_log, after_segments, fault_at, output_of, with_history}
+use Rattle.nn_run.specs.Output.{Printed, AreEventsOf, IsHistoryOf, IsPrintedFrom, after_lines, after_log, after_segments, log_fault, output_of, with_history}
 use Rattle.nn_run.specs.Shown.{IsFaultOf, IsToldOf, with_settings}
 use Rattle.nn_run.specs.Start.{Start}
 use Rattle.nn_run.proofs.TurnLemmas.{told_behind}
@@ -30,7 +30,7 @@ use Rattle.nn_run.proofs.TurnLemmas.{told_behind}
 -- ---- A log.
 
 pub is_fault : (options : Options) (lanes : Lanes) (whole : Result LogEnd LogStop) (stop : LogStop) (p : Printed) → whole ≡ Err stop
-    → p ≡ fault_at (codes " txid ") (stop_number stop.cause) stop.txid → IsFaultOf options lanes whole p
+    → p ≡ log_fault stop → IsFaultOf options lanes whole p
 is_fault options lanes whole stop p stopped is = record {
   stopped = λ end ended. (let q : Err stop ≡ Ok end = sym stopped ∙ ended in absurd (cc));
   is = is ∙ ap (λ w. with_history options.history [] (after_log options lanes w)) (sym stopped);
@@ -89,7 +89,7 @@ told_fault start threads options steps whole segments p are fault =
 
 -- a log that stops
 pub told_stop : (start : Start) (options : Options) (scenario : Scenario) (fault : LogFault) (p : Printed) → Stops start scenario fault
-    → p ≡ fault_at (codes " txid ") (stop_number (stop_of fault).cause) (stop_of fault).txid → IsToldOf start false options scenario.steps (segments_from 1 scenario.parts) p
+    → p ≡ log_fault (stop_of fault) → IsToldOf start false options scenario.steps (segments_from 1 scenario.parts) p
 told_stop start options scenario fault p s is =
     told_fault start false options scenario.steps (segments_from 1 scenario.parts) s.segments p s.are (is_fault options (lanes_of_steps scenario.steps) _ (stop_of fault) p s.ends is)
 

@@ -50,8 +50,8 @@ applied_after past x tx = elim (tx.txid == x.last + 1) as (λ b. cond b (applied
 -- a history that is asked for has no past, and else none is told
 pub told_behind : (asked : Bool) (past events : History) (p : Printed) → (asked ≡ true → past ≡ []) → with_history asked events p ≡ with_history asked (past ++ events) p
 told_behind true past events p kept = ap (λ h. with_history true (h ++ events) p) (sym (kept refl))
-told_behind false past events p kept = elim (p.status == 0) as (λ b. cond (b && false) (record { text = history_text events ++ p.text; status = 0 }) p
-    ≡ cond (b && false) (record { text = history_text (past ++ events) ++ p.text; status = 0 }) p) [
+told_behind false past events p kept = elim (p.status == 0) as (λ b. cond (b && false) (record { text = history_text events ++ p.text; status = 0; error = [] }) p
+    ≡ cond (b && false) (record { text = history_text (past ++ events) ++ p.text; status = 0; error = [] }) p) [
       | true ↦ refl
       | false ↦ refl
     ]

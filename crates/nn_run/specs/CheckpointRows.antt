@@ -64,11 +64,15 @@ a_gap_behind_it h = let first : 6 ≤ 5 = h.1.0 in omega (arith, first)
 abbrev usual : Options
 usual = record { settings = record { permille = 999; min = 1 }; history = false; summary = false; unsafe_blocks = false; image = false; from_image = false; leave_memory = false }
 
-abbrev printed : ℕ → List (List ℕ) → Printed
-printed status each = record { text = flat_map (λ l. l ++ line_feed ∷ []) each; status = status }
+abbrev lines : List (List ℕ) → List ℕ
+lines each = flat_map (λ l. l ++ line_feed ∷ []) each
 
 abbrev listing : Printed
-listing = printed 0 (codes "txid 4" ∷ codes "dir \"/\"" ∷ codes "dir \"/a\"" ∷ codes "dir \"/b\"" ∷ codes "blocks 0 safe 0 needed 0 mode off" ∷ [])
+listing = record {
+  text = lines (codes "txid 4" ∷ codes "dir \"/\"" ∷ codes "dir \"/a\"" ∷ codes "dir \"/b\"" ∷ codes "blocks 0 safe 0 needed 0 mode off" ∷ []);
+  status = 0;
+  error = [];
+}
 
 -- the same over what comes after the cut, with or without what comes before it, and over the whole log
 prints_the_same : (after_segments from_root usual no_messages (Ok (segment (prefix ++ back) ∷ [])) ≡ listing)
@@ -78,7 +82,11 @@ unfolding end_of_log end_of_txs digits escape_byte datanodes
 prints_the_same = (refl, refl, refl)
 
 -- and a fault over a gap
-over_a_gap : after_segments (start_after prefix) usual no_messages (Ok (segment (tx 4 EndSegment ∷ []) ∷ [])) ≡ printed 1 (codes "fault 57 txid 3" ∷ [])
+over_a_gap : after_segments (start_after prefix) usual no_messages (Ok (segment (tx 4 EndSegment ∷ []) ∷ [])) ≡ record {
+  text = lines (codes "fault 57 txid 3" ∷ []);
+  status = 1;
+  error = lines (codes "error: txid 3: the transaction is missing (fault 57; --explain 57 says more)" ∷ []);
+}
 unfolding end_of_log end_of_txs digits escape_byte datanodes
 over_a_gap = refl
 

@@ -4,12 +4,14 @@ pub mod Following
 pub mod Ends
 pub mod Turns
 pub mod TurnsRows
+pub mod Errors
 pub mod Output
 pub mod OutputRows
 pub mod Input
 pub mod Checkpoint
 pub mod Run
 pub mod RunRows
+pub mod ErrorsRows
 pub mod Pieces
 pub mod Shown
 pub mod InMemory

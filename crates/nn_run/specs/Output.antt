@@ -29,17 +29,36 @@ use Rattle.nn_scenario.specs.declared.steps.Step.{Step}
 use Rattle.nn_scenario.specs.declared.scenario.ScenarioFault.{ScenarioFault}
 use Rattle.nn_scenario.specs.declared.segments.PartFault.{PartFault}
 use Rattle.nn_run.specs.declared.engine.Options.{Options}
+use Rattle.nn_run.specs.Errors.{error_line, image_words, line_words, segment_words, stop_words}
 use Rattle.nn_run.specs.Start.{Start, start_in, scenario_in}
 use Rattle.nn_run.specs.Turns.{history_in_turn}
 
--- a text and the program's exit status
+-- a text, the program's exit status, and what goes to standard error with them: nothing with a listing
 pub record Printed : Type 0 where
   pub text : List ℕ
   pub status : ℕ
+  pub error : List ℕ
+
+-- a fault with this number, found at a place, in words
+abbrev pub fault_in : List ℕ → ℕ → List ℕ → Printed
+fault_in place number words = record {
+  text = codes "fault " ++ decimal number ++ place ++ line_feed ∷ [];
+  status = 1;
+  error = error_line (place ++ codes ":") words (decimal number);
+}
 
 -- `fault N line L`, `fault N segment K` or `fault N txid T`, where the place is ` line `, ` segment ` or ` txid `
-abbrev pub fault_at : List ℕ → ℕ → ℕ → Printed
-fault_at place number n = record { text = codes "fault " ++ decimal number ++ place ++ decimal n ++ line_feed ∷ []; status = 1 }
+abbrev pub fault_at : List ℕ → ℕ → ℕ → List ℕ → Printed
+fault_at place number n words = fault_in (place ++ decimal n) number words
+
+abbrev pub line_fault : ScenarioFault → Printed
+line_fault bad = fault_at (codes " line ") (line_number_of bad.fault) bad.line (line_words bad.fault)
+
+abbrev pub segment_fault : PartFault → Printed
+segment_fault bad = fault_at (codes " segment ") (segment_number_of bad.fault) bad.segment (segment_words bad.fault)
+
+abbrev pub log_fault : LogStop → Printed
+log_fault stop = fault_at (codes " txid ") (stop_number stop.cause) stop.txid (stop_words stop.cause)
 
 -- where it is asked for: the line `image`, and the image of the namespace after its last transaction
 abbrev pub image_part : Bool → LogEnd → List ℕ
@@ -74,16 +93,17 @@ after_log options lanes (Ok end) = record {
       (listing_text end.last end.namespace ++ tables_text options.settings.permille options.settings.min end.namespace (items lanes))
       ++ (summary_part options lanes end ++ (unsafe_part options lanes end ++ image_part options.image end));
   status = 0;
+  error = [];
 }
-after_log options lanes (Err stop) = fault_at (codes " txid ") (stop_number stop.cause) stop.txid
+after_log options lanes (Err stop) = log_fault stop
 
 abbrev pub after_segments : Start → Options → Lanes → Result (List Segment) PartFault → Printed
 after_segments start options lanes (Ok segments) = after_log options lanes (end_of_log start.txid start.namespace segments)
-after_segments start options lanes (Err bad) = fault_at (codes " segment ") (segment_number_of bad.fault) bad.segment
+after_segments start options lanes (Err bad) = segment_fault bad
 
 abbrev pub after_lines : Start → Options → Result Scenario ScenarioFault → Printed
 after_lines start options (Ok scenario) = after_segments start options (lanes_of_steps scenario.steps) (segments_from 1 scenario.parts)
-after_lines start options (Err bad) = fault_at (codes " line ") (line_number_of bad.fault) bad.line
+after_lines start options (Err bad) = line_fault bad
 
 -- what is printed for a scenario from a start: the first bad line, or the first bad segment, or the first transaction that is missing or
 -- refused, or the namespace, the tables and what more is asked for. It tells of no standby: neither of what it held, nor in which order it did things.
@@ -94,7 +114,7 @@ output_of start options text = after_lines start options (scenario_of text)
 
 -- where it is asked for, the history comes before the tables; a fault line is alone
 abbrev pub with_history : Bool → History → Printed → Printed
-with_history asked events p = if (p.status == 0) && asked then record { text = history_text events ++ p.text; status = 0 } else p
+with_history asked events p = if (p.status == 0) && asked then record { text = history_text events ++ p.text; status = 0; error = [] } else p
 
 -- the history of a standby that followed these segments from a start, and these steps, on one thread or with a thread for each DataNode
 pub record IsHistoryOf (start : Start) (threads : Bool) (segments : List (List Tx)) (steps : List Step) (events : History) : Type 0 where
@@ -118,19 +138,19 @@ pub record IsPrintedFrom (start : Start) (threads : Bool) (options : Options) (t
 -- ---- An image before the scenario.
 
 -- `fault N image`
-abbrev pub fault_of_image : ℕ → Printed
-fault_of_image number = record { text = codes "fault " ++ decimal number ++ codes " image" ++ line_feed ∷ []; status = 1 }
+abbrev pub fault_of_image : ImageFault → Printed
+fault_of_image fault = fault_in (codes " image") (image_number_of fault) (image_words fault)
 
 -- and where one of its lines has the fault, `fault N image line K`
 abbrev pub image_fault : ImageFault → Printed
-image_fault image.NotHeader = fault_of_image (image_number_of image.NotHeader)
-image_fault (image.BadLine line) = fault_at (codes " image line ") (image_number_of (image.BadLine line)) line
-image_fault (image.WrongOrder line) = fault_at (codes " image line ") (image_number_of (image.WrongOrder line)) line
-image_fault image.CountMismatch = fault_of_image (image_number_of image.CountMismatch)
-image_fault image.Truncated = fault_of_image (image_number_of image.Truncated)
-image_fault image.BadVersion = fault_of_image (image_number_of image.BadVersion)
-image_fault image.ReadFault = fault_of_image (image_number_of image.ReadFault)
-image_fault image.OutOfMemory = fault_of_image (image_number_of image.OutOfMemory)
+image_fault image.NotHeader = fault_of_image image.NotHeader
+image_fault (image.BadLine line) = fault_at (codes " image line ") (image_number_of (image.BadLine line)) line (image_words (image.BadLine line))
+image_fault (image.WrongOrder line) = fault_at (codes " image line ") (image_number_of (image.WrongOrder line)) line (image_words (image.WrongOrder line))
+image_fault image.CountMismatch = fault_of_image image.CountMismatch
+image_fault image.Truncated = fault_of_image image.Truncated
+image_fault image.BadVersion = fault_of_image image.BadVersion
+image_fault image.ReadFault = fault_of_image image.ReadFault
+image_fault image.OutOfMemory = fault_of_image image.OutOfMemory
 
 -- what is printed for an input: for its scenario from its start, or the fault of its image
 abbrev pub IsPrinted : Bool → Options → List ℕ → Printed → Type 0

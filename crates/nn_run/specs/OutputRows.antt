@@ -33,10 +33,14 @@ usual = record { settings = record { permille = 999; min = 1 }; history = false;
 abbrev lines : List (List ℕ) → List ℕ
 lines each = flat_map (λ l. l ++ line_feed ∷ []) each
 
-abbrev printed : ℕ → List (List ℕ) → Printed
-printed status each = record { text = lines each; status = status }
+-- a listing, beside which nothing is told; and a fault line, with the line that goes to standard error
+abbrev listed : List (List ℕ) → Printed
+listed each = record { text = lines each; status = 0; error = [] }
 
-nothing : output_of from_root usual [] ≡ printed 0 (codes "txid 0" ∷ codes "dir \"/\"" ∷ codes "blocks 0 safe 0 needed 0 mode off" ∷ [])
+abbrev faulted : List ℕ → List ℕ → Printed
+faulted line error = record { text = lines (line ∷ []); status = 1; error = lines (error ∷ []) }
+
+nothing : output_of from_root usual [] ≡ listed (codes "txid 0" ∷ codes "dir \"/\"" ∷ codes "blocks 0 safe 0 needed 0 mode off" ∷ [])
 unfolding output_of read_segment fault_of_segment txids_of segment_file_name name_digits reads_of edit_of_line end_of_txs scenario_of lines_from segments_from parts_from end_of_log digits escape_byte datanodes either_of_line either_in report_in dn_in kind_in kind_of object_in value_of tx_in op_in op_of txid_in whole_in number_in path_in profile_in edit_in blocks_in items_in block_in is_utf8 chars encode value punctuate lex content word after_number number_of scan_numeral
 nothing = refl
 
@@ -45,21 +49,21 @@ missing_parent : output_of from_root usual (lines (
     codes "{\"op\":\"OP_START_LOG_SEGMENT\",\"txid\":1}"
     ∷ codes "{\"op\":\"OP_MKDIR\",\"path\":\"/a/b\",\"txid\":2}"
     ∷ codes "{\"op\":\"OP_END_LOG_SEGMENT\",\"txid\":3}" ∷ []))
-    ≡ printed 1 (codes "fault 22 txid 2" ∷ [])
+    ≡ faulted (codes "fault 22 txid 2") (codes "error: txid 2: the path or a parent of it is missing (fault 22; --explain 22 says more)")
 unfolding output_of read_segment fault_of_segment txids_of segment_file_name name_digits reads_of edit_of_line end_of_txs scenario_of lines_from segments_from parts_from end_of_log digits escape_byte datanodes either_of_line either_in report_in dn_in kind_in kind_of object_in value_of tx_in op_in op_of txid_in whole_in number_in path_in profile_in edit_in blocks_in items_in block_in is_utf8 chars encode value punctuate lex content word after_number number_of scan_numeral
 missing_parent = refl
 
 log_begins_too_high : output_of from_root usual (lines (
     codes "{\"op\":\"OP_START_LOG_SEGMENT\",\"txid\":2}"
     ∷ codes "{\"op\":\"OP_END_LOG_SEGMENT\",\"txid\":3}" ∷ []))
-    ≡ printed 1 (codes "fault 57 txid 1" ∷ [])
+    ≡ faulted (codes "fault 57 txid 1") (codes "error: txid 1: the transaction is missing (fault 57; --explain 57 says more)")
 unfolding output_of read_segment fault_of_segment txids_of segment_file_name name_digits reads_of edit_of_line end_of_txs scenario_of lines_from segments_from parts_from end_of_log digits escape_byte datanodes either_of_line either_in report_in dn_in kind_in kind_of object_in value_of tx_in op_in op_of txid_in whole_in number_in path_in profile_in edit_in blocks_in items_in block_in is_utf8 chars encode value punctuate lex content word after_number number_of scan_numeral
 log_begins_too_high = refl
 
 gap_in_segment : output_of from_root usual (lines (
     codes "{\"op\":\"OP_START_LOG_SEGMENT\",\"txid\":1}"
     ∷ codes "{\"op\":\"OP_END_LOG_SEGMENT\",\"txid\":3}" ∷ []))
-    ≡ printed 1 (codes "fault 14 segment 1" ∷ [])
+    ≡ faulted (codes "fault 14 segment 1") (codes "error: segment 1: transaction 2 is missing (fault 14; --explain 14 says more)")
 unfolding output_of read_segment fault_of_segment txids_of segment_file_name name_digits reads_of edit_of_line end_of_txs scenario_of lines_from segments_from parts_from end_of_log digits escape_byte datanodes either_of_line either_in report_in dn_in kind_in kind_of object_in value_of tx_in op_in op_of txid_in whole_in number_in path_in profile_in edit_in blocks_in items_in block_in is_utf8 chars encode value punctuate lex content word after_number number_of scan_numeral
 gap_in_segment = refl
 
@@ -67,7 +71,7 @@ bad_line : output_of from_root usual (lines (
     codes "{\"op\":\"OP_START_LOG_SEGMENT\",\"txid\":1}"
     ∷ codes ""
     ∷ codes "{\"op\":\"OP_MKDIR\",\"txid\":2}" ∷ []))
-    ≡ printed 1 (codes "fault 2 line 3" ∷ [])
+    ≡ faulted (codes "fault 2 line 3") (codes "error: line 3: a key is missing (fault 2; --explain 2 says more)")
 unfolding output_of read_segment fault_of_segment txids_of segment_file_name name_digits reads_of edit_of_line end_of_txs scenario_of lines_from segments_from parts_from end_of_log digits escape_byte datanodes either_of_line either_in report_in dn_in kind_in kind_of object_in value_of tx_in op_in op_of txid_in whole_in number_in path_in profile_in edit_in blocks_in items_in block_in is_utf8 chars encode value punctuate lex content word after_number number_of scan_numeral
 bad_line = refl
 
@@ -81,7 +85,7 @@ early_report : output_of from_root usual (lines (
     ∷ codes "{\"op\":\"OP_ADD_BLOCK\",\"gen\":1001,\"id\":1073741825,\"path\":\"/f\",\"txid\":5}"
     ∷ codes "{\"op\":\"OP_CLOSE\",\"blocks\":[{\"gen\":1001,\"id\":1073741825,\"len\":5}],\"path\":\"/f\",\"txid\":6}"
     ∷ codes "{\"op\":\"OP_END_LOG_SEGMENT\",\"txid\":7}" ∷ []))
-    ≡ printed 0 (codes "txid 7"
+    ≡ listed (codes "txid 7"
     ∷ codes "dir \"/\""
     ∷ codes "file \"/f\" 3 closed 1073741825:1001:5"
     ∷ codes "replica 1073741825 1 1001 5 received live"
@@ -99,7 +103,7 @@ two_are_wanted : output_of from_root (record usual { settings = record { permill
     ∷ codes "{\"op\":\"OP_ADD_BLOCK\",\"gen\":1001,\"id\":1073741825,\"path\":\"/f\",\"txid\":5}"
     ∷ codes "{\"op\":\"OP_CLOSE\",\"blocks\":[{\"gen\":1001,\"id\":1073741825,\"len\":5}],\"path\":\"/f\",\"txid\":6}"
     ∷ codes "{\"op\":\"OP_END_LOG_SEGMENT\",\"txid\":7}" ∷ []))
-    ≡ printed 0 (codes "txid 7"
+    ≡ listed (codes "txid 7"
     ∷ codes "dir \"/\""
     ∷ codes "file \"/f\" 3 closed 1073741825:1001:5"
     ∷ codes "replica 1073741825 1 1001 5 received live"
@@ -117,7 +121,7 @@ what_an_operator_reads : output_of from_root (record usual { settings = record {
     ∷ codes "{\"op\":\"OP_ADD_BLOCK\",\"gen\":1001,\"id\":1073741825,\"path\":\"/f\",\"txid\":5}"
     ∷ codes "{\"op\":\"OP_CLOSE\",\"blocks\":[{\"gen\":1001,\"id\":1073741825,\"len\":5}],\"path\":\"/f\",\"txid\":6}"
     ∷ codes "{\"op\":\"OP_END_LOG_SEGMENT\",\"txid\":7}" ∷ []))
-    ≡ printed 0 (codes "txid 7"
+    ≡ listed (codes "txid 7"
     ∷ codes "dir \"/\""
     ∷ codes "file \"/f\" 3 closed 1073741825:1001:5"
     ∷ codes "replica 1073741825 1 1001 5 received live"
@@ -137,7 +141,7 @@ with_an_image : output_of from_root (record usual { image = true }) (lines (
     ∷ codes "{\"op\":\"OP_ALLOCATE_BLOCK_ID\",\"id\":1073741825,\"txid\":3}"
     ∷ codes "{\"op\":\"OP_ADD\",\"path\":\"/f\",\"replication\":3,\"txid\":4}"
     ∷ codes "{\"op\":\"OP_END_LOG_SEGMENT\",\"txid\":5}" ∷ []))
-    ≡ printed 0 (codes "txid 5"
+    ≡ listed (codes "txid 5"
     ∷ codes "dir \"/\""
     ∷ codes "file \"/f\" 3 open"
     ∷ codes "blocks 0 safe 0 needed 0 mode off"

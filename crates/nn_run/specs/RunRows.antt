@@ -1,6 +1,6 @@
 -- What is printed for an input that is not read, and what a run says of its devices, computed.
 use Rattle.std.specs.Prelude.{◌≡◌, ℕ, ◌+◌, ◌-◌, Bool, true, false, option_map, List, [], ◌∷◌, ◌++◌, length, map, Some, None, codes, refl}
-use Rattle.std.proofs.Common.{zero, suc, arith, sym, ap, inl, inr, ⊎_elim, true≢false, length-append, ◌∙◌}
+use Rattle.std.proofs.Common.{zero, suc, arith, sym, ap, inl, inr, true≢false, length-append, ◌∙◌}
 use Rattle.nn_bytes.specs.Lines.{line_feed}
 use Rattle.nn_device.specs.Device.{Reader, Writer}
 use Rattle.nn_input.specs.declared.fault.InputFault.TheVariants.{ReadFailed, TooLong, OutOfMemory}
@@ -9,15 +9,22 @@ use Rattle.nn_image.specs.Front.{behind_mark, bytes_of, image_cut_from, divided,
 use Rattle.nn_run.specs.Input.{IsWithinLimits, IsTooLong, IsUnread}
 use Rattle.nn_run.specs.Start.{scenario_in}
 use Rattle.nn_run.specs.Output.{Printed}
-use Rattle.nn_run.specs.Run.{Given, IsOutputOfAll, IsUnreadable, fault_alone, unread_line, NoneFailed, Unfinished, WroteOutput, WroteOutputPrefix, running}
+use Rattle.nn_run.specs.Run.{Given, IsOutputOfAll, unread, unread_line, NoneFailed, Unfinished, WroteOutput, WroteOutputPrefix, running}
 
-unread : map unread_line (ReadFailed ∷ TooLong ∷ OutOfMemory ∷ [])
+unread_lines : map unread_line (ReadFailed ∷ TooLong ∷ OutOfMemory ∷ [])
     ≡ (codes "fault 8" ++ line_feed ∷ []) ∷ (codes "fault 8" ++ line_feed ∷ []) ∷ (codes "fault 55" ++ line_feed ∷ []) ∷ []
-unread = refl
+unread_lines = refl
 
--- neither is a listing
-status : map (λ number. (fault_alone number).status) (codes "8" ∷ codes "55" ∷ []) ≡ 1 ∷ 1 ∷ []
+-- none is a listing
+status : map (λ fault. (unread fault).status) (ReadFailed ∷ TooLong ∷ OutOfMemory ∷ []) ≡ 1 ∷ 1 ∷ 1 ∷ []
 status = refl
+
+-- and each is told in words
+told : map (λ fault. (unread fault).error) (ReadFailed ∷ TooLong ∷ OutOfMemory ∷ [])
+    ≡ (codes "error: the input could not be read (fault 8; --explain 8 says more)" ++ line_feed ∷ [])
+    ∷ (codes "error: the input is too long (fault 8; --explain 8 says more)" ++ line_feed ∷ [])
+    ∷ (codes "error: out of memory (fault 55; --explain 55 says more)" ++ line_feed ∷ []) ∷ []
+told = refl
 
 -- a reader that has three bytes left
 abbrev reader : Bool → Reader
@@ -107,25 +114,51 @@ unwritten = record { contents = Some []; taken = 0; failed = false }
 
 -- memory ran out, and no read failed
 wrote_55 : (options : Options) → WroteOutput (running options false (reader false) (reader false)) unwritten (memory_line false) 1
-wrote_55 options = record { output = fault_alone (codes "55"); right = inr (inr (refl, refl)); took = record { bytes = refl; counted = refl; unfailed = refl }; ends = refl }
+    (codes "error: out of memory (fault 55; --explain 55 says more)" ++ line_feed ∷ [])
+wrote_55 options = record {
+  output = unread OutOfMemory;
+  right = inr (OutOfMemory, refl, refl);
+  took = record { bytes = refl; counted = refl; unfailed = refl };
+  ends = refl;
+  told = refl;
+}
 
-wrote_8 : (options : Options) → WroteOutput (running options false (reader false) (reader true)) unwritten (record { contents = Some (codes "fault 8" ++ line_feed ∷ []); taken = 8; failed = false }) 1
-wrote_8 options = record { output = fault_alone (codes "8"); right = inr (inl (refl, inl refl)); took = record { bytes = refl; counted = refl; unfailed = refl }; ends = refl }
+-- a writer that got the line of an input that can't be read
+abbrev unread_written : Writer
+unread_written = record { contents = Some (codes "fault 8" ++ line_feed ∷ []); taken = 8; failed = false }
+
+wrote_8 : (options : Options) → WroteOutput (running options false (reader false) (reader true)) unwritten unread_written 1
+    (codes "error: the input could not be read (fault 8; --explain 8 says more)" ++ line_feed ∷ [])
+wrote_8 options = record {
+  output = unread ReadFailed;
+  right = inr (ReadFailed, refl, refl);
+  took = record { bytes = refl; counted = refl; unfailed = refl };
+  ends = refl;
+  told = refl;
+}
+
+-- a line on standard error is of what was written, and a listing has none
+not_with_a_line : (given : Given) (writer' : Writer) (ended : ℕ) (h : WroteOutput given unwritten writer' ended (codes "error")) → h.output.error ≡ [] → ⊥
+not_with_a_line given writer' ended h none = let e : codes "error" ≡ [] = h.told ∙ none in cc
 
 -- a whole output was written: no write failed
-not_with_a_failed_write : (given : Given) (ended : ℕ) → WroteOutput given unwritten (memory_line true) ended → ⊥
-not_with_a_failed_write given ended h = true≢false h.took.unfailed
+not_with_a_failed_write : (given : Given) (ended : ℕ) (error : List ℕ) → WroteOutput given unwritten (memory_line true) ended error → ⊥
+not_with_a_failed_write given ended error h = true≢false h.took.unfailed
 
 -- and all of it is what the writer got
-not_with_more_counted : (given : Given) (ended : ℕ) (text : List ℕ) → length text ≡ 3 → WroteOutput given unwritten (record { contents = Some text; taken = 4; failed = false }) ended → ⊥
-not_with_more_counted given ended text three h = let n = h.took.counted in let m : length text ≡ length h.output.text = ap length h.took.bytes in omega (arith, n, m, three)
+not_with_more_counted : (given : Given) (ended : ℕ) (error text : List ℕ) → length text ≡ 3
+    → WroteOutput given unwritten (record { contents = Some text; taken = 4; failed = false }) ended error → ⊥
+not_with_more_counted given ended error text three h =
+    let n = h.took.counted in
+    let m : length text ≡ length h.output.text = ap length h.took.bytes in
+    omega (arith, n, m, three)
 
 -- a writer that got the first word of a line
 abbrev word : Bool → Writer
 word failed = record { contents = Some (codes "fault"); taken = 5; failed = failed }
 
 -- a prefix is not all
-not_a_prefix_of_all : Unfinished unwritten (memory_line true) (fault_alone (codes "55")).text (record { written = 9 }) → ⊥
+not_a_prefix_of_all : Unfinished unwritten (memory_line true) (unread OutOfMemory).text (record { written = 9 }) → ⊥
 not_a_prefix_of_all h =
     let w = h.took in
     let e : 9 ≡ length w.prefix + length w.rest = ap length w.whole ∙ length-append w.prefix w.rest in
@@ -133,8 +166,8 @@ not_a_prefix_of_all h =
 
 wrote_a_prefix_of_55 : (options : Options) → WroteOutputPrefix (running options false (reader false) (reader false)) unwritten (word true) (record { written = 5 })
 wrote_a_prefix_of_55 options = record {
-  output = fault_alone (codes "55");
-  right = inr (inr (refl, refl));
+  output = unread OutOfMemory;
+  right = inr (OutOfMemory, refl, refl);
   prefix = record {
     took = record { prefix = codes "fault"; rest = codes " 55" ++ line_feed ∷ []; whole = refl; short = omega arith; bytes = refl; counted = refl; caused = refl };
     told = refl;
@@ -143,14 +176,6 @@ wrote_a_prefix_of_55 options = record {
 
 not_told_of_another_count : (given : Given) → WroteOutputPrefix given unwritten (word true) (record { written = 4 }) → ⊥
 not_told_of_another_count given h = let e : 5 ≡ 0 + length h.prefix.took.prefix = h.prefix.took.counted in omega (arith, e, h.prefix.told)
-
--- an input is unreadable where a read failed
-unreadable : (options : Options) → IsUnreadable (running options false (reader false) (reader true))
-unreadable options = inl refl
-
--- three bytes that were read are not too many
-not_unreadable : (options : Options) → IsUnreadable (running (record options { from_image = false }) false (reader false) (record { left = Some []; reads = 1; given = 3; failed = false; refused = false })) → ⊥
-not_unreadable options h = ⊎_elim (λ (e : false ≡ true). true≢false (sym e)) (λ k. let more = k.1 in let many = k.3 in omega (arith, more, many)) h
 
 -- the output of all is of what was given, up to the end, and of no more than an input may have
 not_of_a_part : (given : Given) (p : Printed) → IsOutputOfAll (record given { after = record { left = Some (codes "c"); reads = 1; given = 2; failed = false; refused = false } }) p → ⊥

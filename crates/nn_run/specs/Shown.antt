@@ -1,5 +1,5 @@
 -- What the outputs of the code print, what was written of them, and options. For private clauses.
-use Rattle.std.specs.Prelude.{◌≡◌, ◌⊎◌, ℕ, Bool, true, false, if◌then◌else◌, List, [], ◌++◌, length, Result, Ok, codes}
+use Rattle.std.specs.Prelude.{◌≡◌, ◌⊎◌, ℕ, Bool, true, false, if◌then◌else◌, List, [], ◌++◌, length, Result, Ok}
 use Rattle.nn_device.specs.Device.{Writer, Took}
 use Rattle.nn_model.specs.History.{History}
 use Rattle.nn_model.specs.Counts.{safe_mode_of}
@@ -21,10 +21,11 @@ use Rattle.nn_scenario.specs.Steps.{lanes_of_steps}
 use Rattle.nn_scenario.specs.declared.segments.PartFault.{PartFault}
 use Rattle.nn_scenario.specs.declared.steps.Step.{Step}
 use Rattle.nn_run.specs.Output.{Printed, AreEventsOf, after_log, after_segments, image_part, with_history}
-use Rattle.nn_run.specs.Pieces.{faulted}
 use Rattle.nn_run.specs.declared.engine.Options.{Options}
 use Rattle.nn_run.specs.Start.{Start}
-use Rattle.nn_run.specs.Run.{Unfinished, fault_alone}
+use Rattle.nn_run.specs.Run.{Unfinished, error_of, failed, unread}
+use Rattle.nn_input.specs.declared.fault.InputFault.TheVariants.{OutOfMemory}
+use Rattle.nn_run.specs.declared.output.RunEnd.{RunEnd}
 use Rattle.nn_run.specs.declared.output.Output.{Output}
 use Rattle.nn_run.specs.declared.output.Output.TheVariants as output
 use Rattle.nn_run.specs.declared.output.RunFault.{RunFault}
@@ -63,23 +64,27 @@ pub record HasFlushed (lanes : Lanes) (x : StandbyState) : Type 0 where
   pub had : (dn : ℕ) → x.had dn ≡ node_state (lane_items (lanes dn))
 
 abbrev pub shown : Options → Output → Printed
-shown options (output.Flushed s) = record { text = listed_text options s; status = 0 }
-shown options (output.Fault line) = faulted line
+shown options (output.Flushed s) = record { text = listed_text options s; status = 0; error = [] }
+shown options (output.Fault failure) = failed failure
 
 abbrev pub printed_of : Ready → Printed
-printed_of (ready.Listing text) = record { text = text; status = 0 }
-printed_of (ready.Fault line) = faulted line.now
+printed_of (ready.Listing text) = record { text = text; status = 0; error = [] }
+printed_of (ready.Fault failure) = failed failure
 
 -- an output, or the line that memory ran out before its first byte
 abbrev pub IsToCome : Printed → Printed → Type 0
-IsToCome p q = (q ≡ p) ⊎ (q ≡ fault_alone (codes "55"))
+IsToCome p q = (q ≡ p) ⊎ (q ≡ unread OutOfMemory)
 
--- it was written whole, and this is its status
-pub record Finished (p : Printed) (writer writer' : Writer) (status : ℕ) : Type 0 where
+-- an end goes with an output: its status, and what it says on standard error
+abbrev pub EndsWith : Printed → RunEnd → Type 0
+EndsWith p end = (end.status ≡ p.status) × (error_of end.fault ≡ p.error)
+
+-- it was written whole, and this is its end
+pub record Finished (p : Printed) (writer writer' : Writer) (end : RunEnd) : Type 0 where
   pub output : Printed
   pub right : IsToCome p output
   pub took : Took writer writer' output.text
-  pub ends : status ≡ output.status
+  pub ends : EndsWith output end
 
 -- a prefix of it was written
 pub record FinishedPrefix (p : Printed) (writer writer' : Writer) (fault : RunFault) : Type 0 where

@@ -33,8 +33,12 @@ use Rattle.nn_run.specs.Start.{from_root, start_in, scenario_in}
 abbrev lines : List (List ℕ) → List ℕ
 lines each = flat_map (λ l. l ++ line_feed ∷ []) each
 
-abbrev printed : ℕ → List (List ℕ) → Printed
-printed status each = record { text = lines each; status = status }
+-- a listing, beside which nothing is told; and a fault line, with the line that goes to standard error
+abbrev listed : List (List ℕ) → Printed
+listed each = record { text = lines each; status = 0; error = [] }
+
+abbrev faulted : List ℕ → List ℕ → Printed
+faulted line error = record { text = lines (line ∷ []); status = 1; error = lines (error ∷ []) }
 
 abbrev header : List ℕ
 header = codes "{\"awaiting\":[],\"image\":\"hdfs-standby\",\"last_block\":1073741824,\"last_gen\":1000,\"profile\":1,\"txid\":5,\"version\":2}"
@@ -74,9 +78,14 @@ nothing_follows = refl
 -- ---- The line of an image's fault.
 
 image_faults : map image_fault (NotHeader ∷ BadLine 2 ∷ WrongOrder 3 ∷ CountMismatch ∷ Truncated ∷ BadVersion ∷ ReadFault ∷ OutOfMemory ∷ [])
-    ≡ printed 1 (codes "fault 61 image" ∷ []) ∷ printed 1 (codes "fault 62 image line 2" ∷ []) ∷ printed 1 (codes "fault 63 image line 3" ∷ [])
-    ∷ printed 1 (codes "fault 64 image" ∷ []) ∷ printed 1 (codes "fault 65 image" ∷ []) ∷ printed 1 (codes "fault 66 image" ∷ [])
-    ∷ printed 1 (codes "fault 67 image" ∷ []) ∷ printed 1 (codes "fault 55 image" ∷ []) ∷ []
+    ≡ faulted (codes "fault 61 image") (codes "error: image: the first line is no header (fault 61; --explain 61 says more)")
+    ∷ faulted (codes "fault 62 image line 2") (codes "error: image line 2: the line is bad (fault 62; --explain 62 says more)")
+    ∷ faulted (codes "fault 63 image line 3") (codes "error: image line 3: the line is out of order (fault 63; --explain 63 says more)")
+    ∷ faulted (codes "fault 64 image") (codes "error: image: the number of paths is wrong (fault 64; --explain 64 says more)")
+    ∷ faulted (codes "fault 65 image") (codes "error: image: the image ends too early (fault 65; --explain 65 says more)")
+    ∷ faulted (codes "fault 66 image") (codes "error: image: the version is unknown (fault 66; --explain 66 says more)")
+    ∷ faulted (codes "fault 67 image") (codes "error: image: a read failed (fault 67; --explain 67 says more)")
+    ∷ faulted (codes "fault 55 image") (codes "error: image: out of memory (fault 55; --explain 55 says more)") ∷ []
 unfolding digits
 image_faults = refl
 
@@ -89,18 +98,21 @@ abbrev usual : Options
 usual = record goes_on { from_image = false }
 
 -- the history comes first where it is asked for, and with no fault
-histories : (with_history true (Applied 1 ∷ []) (printed 0 (codes "x" ∷ [])) ≡ printed 0 (codes "applied 1" ∷ codes "x" ∷ []))
-    × (with_history true (Applied 1 ∷ []) (printed 1 (codes "x" ∷ [])) ≡ printed 1 (codes "x" ∷ []))
-    × (with_history false (Applied 1 ∷ []) (printed 0 (codes "x" ∷ [])) ≡ printed 0 (codes "x" ∷ []))
+histories : (with_history true (Applied 1 ∷ []) (listed (codes "x" ∷ [])) ≡ listed (codes "applied 1" ∷ codes "x" ∷ []))
+    × (with_history true (Applied 1 ∷ []) (faulted (codes "x") (codes "y")) ≡ faulted (codes "x") (codes "y"))
+    × (with_history false (Applied 1 ∷ []) (listed (codes "x" ∷ [])) ≡ listed (codes "x" ∷ []))
 unfolding digits
 histories = (refl, refl, refl)
 
+abbrev no_header : Printed
+no_header = faulted (codes "fault 61 image") (codes "error: image: the first line is no header (fault 61; --explain 61 says more)")
+
 -- the fault of an image is printed alone
-no_image : IsPrinted false goes_on (codes "x") (printed 1 (codes "fault 61 image" ∷ []))
+no_image : IsPrinted false goes_on (codes "x") no_header
 unfolding divided digits
 no_image = refl
 
-no_other_text : IsPrinted false goes_on (codes "x") (printed 0 []) → ⊥
+no_other_text : IsPrinted false goes_on (codes "x") (listed []) → ⊥
 unfolding divided digits
 no_other_text h = let same : 0 ≡ 1 = ap (λ p. p.status) h in omega (arith, same)
 
@@ -112,16 +124,22 @@ is_bad : scenario_of no_path ≡ Err (record { fault = MissingField; line = 1 })
 unfolding scenario_of lines_from edit_of_line either_of_line either_in report_in dn_in kind_in kind_of object_in line_value tx_in op_in op_of txid_in whole_in line_number line_path line_profile edit_in blocks_in items_in block_in is_utf8 chars encode value punctuate lex content word after_number json_number scan_numeral
 is_bad = refl
 
-is_told : output_of from_root usual no_path ≡ printed 1 (codes "fault 2 line 1" ∷ [])
+abbrev lacks_key : Printed
+lacks_key = faulted (codes "fault 2 line 1") (codes "error: line 1: a key is missing (fault 2; --explain 2 says more)")
+
+abbrev has_no_number : Printed
+has_no_number = faulted (codes "fault 3 line 1") (codes "error: line 1: not a whole number in range (fault 3; --explain 3 says more)")
+
+is_told : output_of from_root usual no_path ≡ lacks_key
 unfolding output_of scenario_of lines_from edit_of_line either_of_line either_in report_in dn_in kind_in kind_of object_in line_value tx_in op_in op_of txid_in whole_in line_number line_path line_profile edit_in blocks_in items_in block_in digits is_utf8 chars encode value punctuate lex content word after_number json_number scan_numeral
 is_told = refl
 
-a_bad_line : IsPrinted false usual no_path (printed 1 (codes "fault 2 line 1" ∷ []))
+a_bad_line : IsPrinted false usual no_path lacks_key
 a_bad_line = record { events = []; happened = λ scenario e. absurd (cc (is_bad, e)); is = sym (ap (with_history false []) is_told) }
 
-another_text : IsPrinted false usual no_path (printed 1 (codes "fault 3 line 1" ∷ [])) → ⊥
+another_text : IsPrinted false usual no_path has_no_number → ⊥
 another_text h =
-    let same : printed 1 (codes "fault 3 line 1" ∷ []) ≡ printed 1 (codes "fault 2 line 1" ∷ []) = h.is ∙ ap (with_history false h.events) is_told in
+    let same : has_no_number ≡ lacks_key = h.is ∙ ap (with_history false h.events) is_told in
     let digit : 51 ≡ 50 = ap (λ p. get_or p.text 6 0) same in
     omega (arith, digit)
 
@@ -133,7 +151,7 @@ no_lines = record { parts = []; steps = []; datanodes = 1 }
 abbrev the_root : List (List ℕ)
 the_root = codes "txid 0" ∷ codes "dir \"/\"" ∷ codes "blocks 0 safe 0 needed 0 mode off" ∷ []
 
-the_root_is_told : output_of from_root (record usual { history = true }) [] ≡ printed 0 the_root
+the_root_is_told : output_of from_root (record usual { history = true }) [] ≡ listed the_root
 unfolding output_of scenario_of lines_from segments_from parts_from end_of_log end_of_txs digits escape_byte datanodes
 the_root_is_told = refl
 
@@ -142,9 +160,9 @@ none_happened : (events : History) → ((scenario : Scenario) → scenario_of []
 unfolding scenario_of lines_from segments_from parts_from end_of_log end_of_txs
 none_happened events happened = (happened no_lines refl [] (record { last = 0; namespace = root_alone }) refl refl).one_thread refl
 
-not_what_did_not_happen : IsPrinted false (record usual { history = true }) [] (printed 0 (codes "applied 1" ∷ the_root)) → ⊥
+not_what_did_not_happen : IsPrinted false (record usual { history = true }) [] (listed (codes "applied 1" ∷ the_root)) → ⊥
 unfolding digits
 not_what_did_not_happen h =
-    let same : printed 0 (codes "applied 1" ∷ the_root) ≡ printed 0 the_root = h.is ∙ (λ i. with_history true (none_happened h.events h.happened i) (the_root_is_told i)) in
+    let same : listed (codes "applied 1" ∷ the_root) ≡ listed the_root = h.is ∙ (λ i. with_history true (none_happened h.events h.happened i) (the_root_is_told i)) in
     let letter : 97 ≡ 116 = ap (λ p. get_or p.text 0 0) same in
     omega (arith, letter)

@@ -11,16 +11,14 @@ ghost use Rattle.nn_run.specs.Following.{serving};
 ghost use Rattle.nn_run.specs.declared.engine.Options.{Options as RunOptions};
 ghost use Rattle.nn_run.specs.Output.{after_log, with_history, IsPrinted};
 ghost use Rattle.nn_run.specs.Ends.{IsRunOf};
-ghost use Rattle.nn_run.specs.Run.{WroteOutput, WroteOutputPrefix, running, unread_line};
-ghost use Rattle.nn_run.specs.Pieces.{faulted};
+ghost use Rattle.nn_run.specs.Run.{WroteOutput, WroteOutputPrefix, error_of, failed, running};
 ghost use Rattle.nn_run.specs.Shown.{HasFlushed, shown, with_settings};
 
-use crate::fault_line::FaultLine;
+use crate::failure::RunFailure;
 use crate::following::BadInput;
 use crate::one_thread::follow_input;
-use crate::output::{OUT_OF_MEMORY, Output, RunEnd, RunFault, finish, finish_output, no_memory};
+use crate::output::{Output, RunEnd, RunFault, finish_output, finish_unread, no_memory};
 use nn_device::{Reader, Writer};
-use nn_input::InputFault;
 use nn_shadow::{FlushFault, Shadow};
 use nn_types::Settings;
 use std::alloc::{AllocError, Global};
@@ -46,9 +44,6 @@ pub struct Options {
     pub leave_memory: bool,
 }
 
-/// The line of an input that a reader did not give whole.
-const UNREADABLE: &[u8] = b"fault 8\n";
-
 /// Reads an input to its end and writes the listing of its scenario, or one fault line and nothing else. Nothing is written
 /// before the log has ended, and nothing before all memory was had that the output wants; then it is written in parts of some
 /// 65,536 bytes. Where the input begins with an image, that is read first: the standby starts from it, passes over the
@@ -68,7 +63,7 @@ pub fn run<R: Read, W: Write>(
 ) -> Result<RunEnd, RunFault>
     ensures written { IfOk result (λ end. WroteOutput
         (running options.now false input.old input.new)
-        writer.old writer.new end.status) }
+        writer.old writer.new end.status (error_of end.fault)) }
     ensures prefix { IfErr result (WroteOutputPrefix
         (running options.now false input.old input.new)
         writer.old writer.new) }
@@ -79,21 +74,11 @@ pub fn run<R: Read, W: Write>(
     input.reads();
     let end = match read {
         Ok(end) => end,
-        Err(fault) => return finish(writer, unread_line(fault), 1),
+        Err(fault) => return finish_unread(writer, fault),
     };
     match output_of_end(end) {
         Ok(output) => finish_output(alloc, options, output, writer),
         Err(AllocError) => no_memory(writer),
-    }
-}
-
-/// The line of an input that was not read: `fault 8`, or `fault 55` where memory was refused.
-pub fn unread_line(fault: InputFault) -> &'static [u8]
-    ensures { result.now ≡ unread_line fault }
-{
-    match fault {
-        InputFault::ReadFailed | InputFault::TooLong => UNREADABLE,
-        InputFault::OutOfMemory => OUT_OF_MEMORY,
     }
 }
 
@@ -105,18 +90,19 @@ fn output_of_end(end: Result<Shadow, BadInput>) -> Result<Output, AllocError>
 {
     match end {
         Ok(shadow) => output_of_standby(shadow),
-        Err(halt) => Ok(Output::Fault(line_of_halt(halt)?)),
+        Err(halt) => Ok(Output::Fault(failure_of_halt(halt)?)),
     }
 }
 
-fn line_of_halt(halt: BadInput) -> Result<FaultLine, AllocError>
-    ensures { (options : RunOptions) (input : List ℕ) → IsRunOf options input (Err halt) → IfOk result (λ line. IsPrinted false options input (faulted line)) }
+fn failure_of_halt(halt: BadInput) -> Result<RunFailure, AllocError>
+    ensures { (options : RunOptions) (input : List ℕ) → IsRunOf options input (Err halt)
+        → IfOk result (λ failure. IsPrinted false options input (failed failure)) }
 {
     match halt {
-        BadInput::Image(fault) => Ok(FaultLine::of_image(fault)),
-        BadInput::Line(bad) => FaultLine::of_bad_line(bad),
-        BadInput::Segment(bad) => FaultLine::of_bad_segment(bad),
-        BadInput::Log(fault) => Ok(FaultLine::of_log(fault)),
+        BadInput::Image(fault) => Ok(RunFailure::Image(fault)),
+        BadInput::Line(bad) => RunFailure::of_bad_line(bad),
+        BadInput::Segment(bad) => RunFailure::of_bad_segment(bad),
+        BadInput::Log(fault) => Ok(RunFailure::Log(fault)),
     }
 }
 

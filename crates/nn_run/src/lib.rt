@@ -3,7 +3,8 @@
 #![tactic(auto)]
 
 mod engine;
-mod fault_line;
+mod errors;
+mod failure;
 mod follower;
 mod following;
 mod gate;
@@ -16,8 +17,9 @@ mod segments;
 mod start;
 mod threads;
 
-pub use engine::{Options, run, unread_line};
-pub use fault_line::put_image_fault;
+pub use engine::{Options, run};
+pub use failure::{RunFailure, put_image_fault, unread_line};
+pub use follower::LogFault;
 pub use gate::{Gate, Open};
 pub use law::a_checkpoint_prints_the_same;
 pub use nn_input::InputFault;

@@ -7,11 +7,11 @@ ghost use Rattle.nn_image.specs.Text.{image_text};
 ghost use Rattle.nn_listing.specs.Trail.{history_text};
 ghost use Rattle.nn_run.specs.Output.{image_part};
 ghost use Rattle.nn_run.specs.Pieces.{image_after, summary_after, text_after};
-ghost use Rattle.nn_run.specs.Shown.{history_part, listed_text, printed_of, shown, summary_shown, unsafe_shown};
+ghost use Rattle.nn_run.specs.Shown.{EndsWith, history_part, listed_text, printed_of, shown, summary_shown, unsafe_shown};
 
 use crate::engine::Options;
-use crate::fault_line::FaultLine;
-use crate::output::Output;
+use crate::failure::RunFailure;
+use crate::output::{Output, RunEnd};
 use nn_device::{Page, Writer};
 use nn_image::ReadyImage;
 use nn_listing::{ReadyListing, ReadyTables, ReadyUnsafe, put_history, put_summary};
@@ -26,7 +26,7 @@ use std::marker::Model;
 #[derive(Drop)]
 pub(crate) enum Ready<'a> {
     Listing(ReadyParts<'a>),
-    Fault(&'a FaultLine),
+    Fault(RunFailure),
 }
 
 /// The parts of a listing, one behind another.
@@ -64,17 +64,23 @@ impl<'a> Ready<'a> {
     {
         match output {
             Output::Flushed(shadow) => Ok(Ready::Listing(ReadyParts::of(alloc, options, shadow)?)),
-            Output::Fault(line) => Ok(Ready::Fault(line)),
+            Output::Fault(failure) => Ok(Ready::Fault(*failure)),
         }
     }
 
-    /// The status that goes with it.
-    pub(crate) fn status(&self) -> u8
-        ensures { result ≡ (printed_of self.now).status }
+    /// How a run ends that prints it.
+    pub(crate) fn end(&self) -> RunEnd
+        ensures { EndsWith (printed_of self.now) result }
     {
         match self {
-            Ready::Listing(_) => 0,
-            Ready::Fault(_) => 1,
+            Ready::Listing(_) => RunEnd {
+                status: 0,
+                fault: None,
+            },
+            Ready::Fault(failure) => RunEnd {
+                status: 1,
+                fault: Some(*failure),
+            },
         }
     }
 
@@ -84,7 +90,7 @@ impl<'a> Ready<'a> {
     {
         match self {
             Ready::Listing(parts) => parts.put(page, writer),
-            Ready::Fault(line) => line.put(page, writer),
+            Ready::Fault(failure) => failure.put(page, writer),
         }
     }
 }

@@ -7,23 +7,23 @@ ghost use Rattle.nn_scenario.specs.Cut.{segments_from};
 ghost use Rattle.nn_scenario.specs.Lines.{IsScenarioOf};
 ghost use Rattle.nn_scenario.specs.Scenario.{scenario_of_read, IsLawfulScenario};
 ghost use Rattle.nn_scenario.specs.Steps.{lanes_of_steps, AreNextMessages, IsStepOf};
-ghost use Rattle.nn_run.specs.InMemory.{GivesReport, report_of, with_step, AreFew, AreInMemory, IsBegun, MayEnd, TellsStop};
+ghost use Rattle.nn_run.specs.InMemory.{GivesReport, cause_by, refusal_of, report_of, with_step, AreFew, AreInMemory, IsBegun, MayEnd, TellsStop};
 ghost use Rattle.nn_run.specs.Input.{IsRead, start_of};
 ghost use Rattle.nn_drive.specs.Driven.{HaveReporters, IsDriven, NotDriven};
 ghost use Rattle.nn_drive.specs.NewLanes.{HaveCapacity};
 ghost use Rattle.nn_segment.specs.Source.{GivesNext};
 ghost use Rattle.nn_lane_standby.specs.Public.{AreNew};
 ghost use Rattle.nn_lane_standby.specs.Tailing.{has_begun};
-ghost use Rattle.nn_run.specs.Output.{output_of, IsPrinted, IsPrintedFrom};
-ghost use Rattle.nn_run.specs.Pieces.{faulted};
-ghost use Rattle.nn_run.specs.Run.{WroteOutput, WroteOutputPrefix, running};
+ghost use Rattle.nn_run.specs.Output.{log_fault, output_of, IsPrinted, IsPrintedFrom};
+ghost use Rattle.nn_run.specs.Run.{WroteOutput, WroteOutputPrefix, error_of, failed, running};
 ghost use Rattle.nn_run.specs.Shown.{shown, IsToldOf};
 ghost use Rattle.nn_types.specs.Limits.{max_capacity, max_datanodes};
 
-use crate::engine::{Options, output_of_flushed, unread_line};
-use crate::fault_line::FaultLine;
+use crate::engine::{Options, output_of_flushed};
+use crate::failure::RunFailure;
+use crate::follower::LogFault;
 use crate::gate::{Gate, GatePass};
-use crate::output::{Output, RunEnd, RunFault, finish, finish_output, no_memory};
+use crate::output::{Output, RunEnd, RunFault, finish_output, finish_unread, no_memory};
 use crate::parts::{InputParts, read_parts};
 use crate::segments::Segments;
 use crate::start::{Begin, start_from};
@@ -33,8 +33,8 @@ use nn_lane::{LaneEnd, Reporter};
 use nn_lane_standby::{Active, Standby};
 use nn_scenario::{Scenario, ScenarioFault, Step, StepList, read_segments};
 use nn_segment::Parsed;
-use nn_shadow::Shadow;
-use nn_types::{Message, Report, Settings};
+use nn_shadow::{Shadow, Stop};
+use nn_types::{EditFault, Message, Report, Settings, fault};
 use std::alloc::{AllocError, Global};
 use std::collections::VecDeque;
 use std::io::{Read, Write};
@@ -170,16 +170,51 @@ fn sources_of<G: Drop>(
     Ok(sources)
 }
 
-// The line of what a drive ended with that did not promote the standby.
-fn line_of_drive(fault: DriveFault) -> Result<FaultLine, AllocError>
+// Why a drive did not promote the standby.
+fn failure_of_drive(fault: DriveFault) -> Result<RunFailure, AllocError>
     requires { MayEnd fault }
-    ensures { IfOk result (λ line. TellsStop fault (faulted line)) }
+    ensures { IfOk result (λ failure. TellsStop fault (failed failure)) }
 {
     match fault {
-        DriveFault::Stopped(stop) => Ok(FaultLine::at(stop.number, " txid ", stop.txid.get())),
+        DriveFault::Stopped(stop) => Ok(failure_of_stop(stop)),
         DriveFault::OutOfMemory => Err(AllocError),
         DriveFault::AlreadyActive => unreachable!(),
         DriveFault::LogNotEnded(_) => unreachable!(),
+    }
+}
+
+// A stop has the number of its fault alone.
+fn failure_of_stop(stop: Stop) -> RunFailure
+    ensures { failed result ≡ log_fault (record { cause = cause_by (refusal_of stop.number); txid = stop.txid }) }
+{
+    let txid = stop.txid.get();
+    match refusal_of(stop.number) {
+        Some(fault) => RunFailure::Log(LogFault::Refused { fault, txid }),
+        None => RunFailure::Log(LogFault::Disorder { txid }),
+    }
+}
+
+// Why an edit was refused, by the number of that.
+#[tactic(auto, unfolding(crate::specs::InMemory::refusal_of))]
+fn refusal_of(number: u8) -> Option<EditFault>
+    ensures { result ≡ refusal_of number }
+{
+    match number {
+        fault::EXISTS => Some(EditFault::Exists),
+        fault::MISSING => Some(EditFault::Missing),
+        fault::NOT_DIRECTORY => Some(EditFault::NotDirectory),
+        fault::NOT_FILE => Some(EditFault::NotFile),
+        fault::IS_ROOT => Some(EditFault::IsRoot),
+        fault::INTO_ITSELF => Some(EditFault::IntoItself),
+        fault::NOT_OPEN => Some(EditFault::NotOpen),
+        fault::WRONG_BLOCKS => Some(EditFault::WrongBlocks),
+        fault::BAD_GENERATION => Some(EditFault::BadGeneration),
+        fault::BAD_BLOCK_ID => Some(EditFault::BadBlockId),
+        fault::BAD_REPLICATION => Some(EditFault::BadReplication),
+        fault::NOT_CLOSED => Some(EditFault::NotClosed),
+        fault::LOWER_PROFILE => Some(EditFault::LowerProfile),
+        fault::MEMORY => Some(EditFault::OutOfMemory),
+        _ => None,
     }
 }
 
@@ -246,7 +281,7 @@ fn output_of_drive<G: Gate + Send + Sync + Drop, R: Threads + Wait + Sync>(
     let standby = standby_over(alloc, ends, asked.options.settings, begin)?;
     match drive_over(rt, alloc, asked, standby, segments, workers) {
         Ok((shadow, _active)) => Ok(output_of_flushed(shadow)),
-        Err(fault) => Ok(Output::Fault(line_of_drive(fault)?)),
+        Err(fault) => Ok(Output::Fault(failure_of_drive(fault)?)),
     }
 }
 
@@ -268,7 +303,7 @@ fn output_of_threads<G: Gate + Send + Sync + Drop, R: Threads + Wait + Sync>(
     } = scenario;
     match read_segments(alloc, parts) {
         Ok(segments) => output_of_drive(rt, alloc, asked, begin, datanodes, steps, segments),
-        Err(bad) => Ok(Output::Fault(FaultLine::of_bad_segment(bad)?)),
+        Err(bad) => Ok(Output::Fault(RunFailure::of_bad_segment(bad)?)),
     }
 }
 
@@ -287,7 +322,7 @@ fn output_by_threads<G: Gate + Send + Sync + Drop, R: Threads + Wait + Sync>(
 {
     match lines {
         Ok(scenario) => output_of_threads(rt, alloc, asked, begin, scenario),
-        Err(bad) => Ok(Output::Fault(FaultLine::of_bad_line(bad)?)),
+        Err(bad) => Ok(Output::Fault(RunFailure::of_bad_line(bad)?)),
     }
 }
 
@@ -305,7 +340,7 @@ fn parts_by_threads<G: Gate + Send + Sync + Drop, R: Threads + Wait + Sync>(
     let InputParts { loaded, lines } = parts;
     match start_from(alloc, asked.options.from_image, loaded) {
         Ok(begin) => output_by_threads(rt, alloc, asked, begin, lines),
-        Err(fault) => Ok(Output::Fault(FaultLine::of_image(fault))),
+        Err(fault) => Ok(Output::Fault(RunFailure::Image(fault))),
     }
 }
 
@@ -324,7 +359,7 @@ pub fn run_threads<I: Read, W: Write, G: Gate + Send + Sync + Drop, R: Threads +
     requires { (1 ≤ asked.now.capacity) × (asked.now.capacity ≤ max_capacity) }
     ensures written { IfOk result (λ end. WroteOutput
         (running asked.now.options true input.old input.new)
-        writer.old writer.new end.status) }
+        writer.old writer.new end.status (error_of end.fault)) }
     ensures prefix { IfErr result (WroteOutputPrefix
         (running asked.now.options true input.old input.new)
         writer.old writer.new) }
@@ -335,7 +370,7 @@ pub fn run_threads<I: Read, W: Write, G: Gate + Send + Sync + Drop, R: Threads +
     input.reads();
     let parts = match read {
         Ok(parts) => parts,
-        Err(fault) => return finish(writer, unread_line(fault), 1),
+        Err(fault) => return finish_unread(writer, fault),
     };
     match parts_by_threads(rt, alloc, asked, parts) {
         Ok(output) => finish_output(alloc, &asked.options, output, writer),

@@ -1,13 +1,14 @@
-use Rattle.std.proofs.Common.{false, refl, codes}
-use Rattle.nn_run.specs.Run.{fault_alone, running}
+use Rattle.std.proofs.Common.{false}
+use Rattle.nn_input.specs.declared.fault.InputFault.TheVariants.{OutOfMemory}
+use Rattle.nn_run.specs.Run.{running, unread}
 use Rattle.nn_run.specs.Shown.{shown}
 use Rattle.nn_run.proofs.WriteLemmas.{finishes, writes, writes_unread, is_output_of_all, is_no_memory}
 use Rattle.nn_run.proofs.engine.run.Goals as goal
 
 pub returns-in-Err : goal.returns-in-Err
 returns-in-Err g c =
-    let w = writes_unread c.args.options.now false c.args.input.now c.follow_input-read.new.input c.finish.result c.args.writer.now c.finish.new.writer
-    c.in-Err.fault c.unread_line.result.now c.in-Err.ensures.why c.unread_line.ensures c.finish.ensures.ok c.finish.ensures.prefix in
+    let w = writes_unread c.args.options.now false c.args.input.now c.follow_input-read.new.input c.finish_unread.result c.args.writer.now c.finish_unread.new.writer
+    c.in-Err.fault c.in-Err.ensures.why c.finish_unread.ensures.ok c.finish_unread.ensures.prefix in
     record { written = w.written; prefix = w.prefix; reads = c.reads.ensures.bounded }
 
 pub returns-in-Ok-output_of_end : goal.returns-in-Ok-output_of_end
@@ -24,6 +25,6 @@ pub returns-in-Err-output_of_end : goal.returns-in-Err-output_of_end
 returns-in-Err-output_of_end g c =
     let given = running c.args.options.now false c.args.input.now c.follow_input-read.new.input in
     let w = writes given c.no_memory.result c.args.writer.now c.no_memory.new.writer
-    (fault_alone (codes "55")) _ _ refl refl (is_no_memory given c.in-Ok.ensures.none_failed)
+    (unread OutOfMemory) (is_no_memory given c.in-Ok.ensures.none_failed)
     c.no_memory.ensures.ok c.no_memory.ensures.prefix in
     record { written = w.written; prefix = w.prefix; reads = c.reads.ensures.bounded }

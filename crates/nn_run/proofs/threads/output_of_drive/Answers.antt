@@ -3,7 +3,7 @@ use Rattle.nn_scenario.specs.Steps.{lanes_of_steps}
 use Rattle.nn_segment.specs.Segment.{Segment}
 use Rattle.nn_run.specs.Input.{start_of}
 use Rattle.nn_run.specs.Output.{IsHistoryOf}
-use Rattle.nn_run.specs.Pieces.{faulted}
+use Rattle.nn_run.specs.Run.{failed}
 use Rattle.nn_run.specs.Shown.{shown}
 use Rattle.nn_run.proofs.ToldLemmas.{told_history, told_fault}
 use Rattle.nn_run.proofs.DrivenLemmas.{ends_many, arrives, may_end, stop_told, tells}
@@ -36,17 +36,17 @@ returns-in-Ok g c =
     told_history start true options c.args.steps (Ok segments) segments c.in-Ok.shadow.history p refl (λ end ended. happened)
     (tells start options lanes segments c.in-Ok.shadow p a (c.output_of_flushed.ensures options))
 
-pub line_of_drive-requires : goal.line_of_drive-requires
-line_of_drive-requires g c = may_end c.in_ok-standby.standby c.args.segments.items c.in_ok-standby.ensures.serves c.in-Err.fault c.in-Err.ensures.err
+pub failure_of_drive-requires : goal.failure_of_drive-requires
+failure_of_drive-requires g c = may_end c.in_ok-standby.standby c.args.segments.items c.in_ok-standby.ensures.serves c.in-Err.fault c.in-Err.ensures.err
 
-pub returns-in_ok-line_of_drive-in-Err : goal.returns-in_ok-line_of_drive-in-Err
-returns-in_ok-line_of_drive-in-Err g c =
+pub returns-in_ok-failure_of_drive-in-Err : goal.returns-in_ok-failure_of_drive-in-Err
+returns-in_ok-failure_of_drive-in-Err g c =
     let options = c.args.asked.now.options in
     let settings = options.settings in
     let lanes = lanes_of_steps c.args.steps in
     let segments = c.args.segments.items in
-    let line = faulted c.in_ok-line_of_drive-in-Err.field-0 in
+    let line = failed c.in_ok-failure_of_drive-in-Err.field-0 in
     let start = start_of c.args.begin in
     told_fault start true options c.args.steps (Ok segments) segments line refl
     (stop_told settings c.args.datanodes lanes c.in_ok-sources.sources.items c.in_ok-sources.ensures c.in_ok-workers.workers.items c.in_ok-workers.ends.items c.in_ok-workers.ensures.own start c.in_ok-standby.standby c.in_ok-standby.ensures.begun c.in_ok-standby.ensures.settings segments
-    options c.in-Err.fault line c.in-Err.ensures.err c.in_ok-line_of_drive-in-Err.ensures)
+    options c.in-Err.fault line c.in-Err.ensures.err c.in_ok-failure_of_drive-in-Err.ensures)

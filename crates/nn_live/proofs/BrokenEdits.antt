@@ -18,15 +18,15 @@ use Rattle.nn_shadow.specs.Calls.{applied_to}
 use Rattle.nn_shadow.specs.Numbers.{number_of_apply}
 use Rattle.nn_shadow.specs.Refusals.{apply_refusal}
 use Rattle.nn_live.specs.Live.{LiveSetup, ServiceState, applies, behind_edit, comes_to, ends, ends_segment, follows, follows_new, follows_segment, follows_txs, is_between, takes_edit, tells_gap}
-use Rattle.nn_live.specs.Serving.{Breaks, HasRead, IsAllOf, IsAtService, IsCutShort, HasPart, InHand, SaysMore, Service, fault_text, part_alone, keeps_edit, one_more_segment, puts_edit, takes_segment}
+use Rattle.nn_live.specs.Serving.{Breaks, HasRead, IsAllOf, IsAtService, IsCutShort, HasPart, SegmentInHand, SaysMore, Service, fault_text, part_alone, keeps_edit, one_more_segment, puts_edit, takes_segment}
 use Rattle.nn_live.proofs.Breaking.{same_breaks}
 use Rattle.nn_live.proofs.Came.{same_txs}
 use Rattle.nn_live.proofs.Following.{Came}
 use Rattle.nn_live.proofs.Growing.{follows_grow}
-use Rattle.nn_live.proofs.InHand.{has_no_mark, now_ended}
+use Rattle.nn_live.proofs.SegmentInHand.{has_no_mark, now_ended}
 
 -- the same service, with these edits in hand and these counts
-with_counts : (asked : LiveSetup) (x : Service) (s : ServiceState) (h : InHand) (part : Part) (known known' passed passed' segments segments' : ℕ) → IsAtService asked x s → HasPart part h
+with_counts : (asked : LiveSetup) (x : Service) (s : ServiceState) (h : SegmentInHand) (part : Part) (known known' passed passed' segments segments' : ℕ) → IsAtService asked x s → HasPart part h
     → known ≡ known' → passed ≡ passed' → segments ≡ segments'
     → IsAtService asked (record x { in_hand = h; known = known; passed = passed; segments = segments }) (record s { in_hand = part; known = known'; passed = passed'; segments = segments' })
 with_counts asked x s h part known known' passed passed' segments segments' i keeps k p n = record {
@@ -113,8 +113,8 @@ segment_breaks x part none g txs told is same breaks asked s i =
 -- ---- An edit.
 
 -- it ended those in hand
-pub ended_breaks : (x : Service) (line : EditLine) (h : InHand) (pushed : (part : Part) → HasPart part x.in_hand → HasRead (with_edit_line (part_alone part) line) (with_line part line) h)
-    (none : InHand) (told : List ℕ) → HasPart no_lines none → is_end line.tx.edit ≡ true
+pub ended_breaks : (x : Service) (line : EditLine) (h : SegmentInHand) (pushed : (part : Part) → HasPart part x.in_hand → HasRead (with_edit_line (part_alone part) line) (with_line part line) h)
+    (none : SegmentInHand) (told : List ℕ) → HasPart no_lines none → is_end line.tx.edit ≡ true
     → ((read : Reading) (part : Part) → HasRead read part h → IsAllOf part read → Breaks (takes_segment part) (record x { in_hand = none; known = max x.known line.tx.txid }) told)
     → Breaks (keeps_edit line) x told
 ended_breaks x line h pushed none told empty ends breaks asked s i =
@@ -138,7 +138,7 @@ module _ (line : EditLine) where
 -- ---- Edits in hand when the input ends.
 
 -- they are no segment
-no_segment : (part : Part) (x : InHand) → HasPart part x → (r : Result Segment SegmentFault) → segment_of part ≡ r → (fault : SegmentFault) × (segment_of part ≡ Err fault)
+no_segment : (part : Part) (x : SegmentInHand) → HasPart part x → (r : Result Segment SegmentFault) → segment_of part ≡ r → (fault : SegmentFault) × (segment_of part ≡ Err fault)
 no_segment part x has (Ok g) e = absurd (has_no_mark part x has g (read_is_segment (part_name part.txs) part.bytes g e).0 (same_txs part g has.check.read e))
 no_segment part x has (Err fault) e = (fault, e)
 

@@ -7,13 +7,13 @@ use Rattle.nn_segment.specs.declared.fault.SegmentFault.{SegmentFault}
 use Rattle.nn_scenario.specs.Cut.{EditLine, Part, no_lines, with_line, segment_of}
 use Rattle.nn_scenario.specs.Reading.{Reading, with_edit_line}
 use Rattle.nn_live.specs.Live.{LiveSetup, ServiceState, says, ends, ends_segment, follows_segment, follows_txs, is_between, behind_edit, takes_edit}
-use Rattle.nn_live.specs.Serving.{Service, InHand, HasRead, IsAllOf, IsAtService, HasPart, FollowsStep, part_alone, fault_text, keeps_edit, one_more_segment, puts_edit, takes_segment}
-use Rattle.nn_live.proofs.InHand.{no_edits, now_ended, still_open}
+use Rattle.nn_live.specs.Serving.{Service, SegmentInHand, HasRead, IsAllOf, IsAtService, HasPart, FollowsStep, part_alone, fault_text, keeps_edit, one_more_segment, puts_edit, takes_segment}
+use Rattle.nn_live.proofs.SegmentInHand.{no_edits, now_ended, still_open}
 use Rattle.nn_live.proofs.Places.{told_there, same_makes, then_makes}
 use Rattle.nn_live.proofs.Twice.{not_both}
 
 -- the same service, with these edits in hand and these counts
-with_hand : (asked : LiveSetup) (x : Service) (s : ServiceState) (h : InHand) (part : Part) (known known' segments segments' : ℕ) → IsAtService asked x s → HasPart part h → known ≡ known' → segments ≡ segments'
+with_hand : (asked : LiveSetup) (x : Service) (s : ServiceState) (h : SegmentInHand) (part : Part) (known known' segments segments' : ℕ) → IsAtService asked x s → HasPart part h → known ≡ known' → segments ≡ segments'
     → IsAtService asked (record x { in_hand = h; known = known; segments = segments }) (record s { in_hand = part; known = known'; segments = segments' })
 with_hand asked x s h part known known' segments segments' i keeps k n = record {
   asks = i.asks;
@@ -64,7 +64,7 @@ module _ (x : Service) where
   pub none_in_hand : (x.in_hand.edits == 0) ≡ true → (asked : LiveSetup) (s : ServiceState) → IsAtService asked x s → ends asked s ≡ s
   none_in_hand is asked s i = ap (λ k. cond (k == 0) s (ends_segment asked s)) (sym i.in_hand.edits) ∙ ap (λ b. cond b s (ends_segment asked s)) is
 
-  pub unfinished : (h : InHand) (fault : SegmentFault) → HasPart no_lines h → (x.in_hand.edits == 0) ≡ false → ((part : Part) → HasPart part x.in_hand → segment_of part ≡ Err fault)
+  pub unfinished : (h : SegmentInHand) (fault : SegmentFault) → HasPart no_lines h → (x.in_hand.edits == 0) ≡ false → ((part : Part) → HasPart part x.in_hand → segment_of part ≡ Err fault)
       → FollowsStep (λ asked s. ends asked s) x (record x { in_hand = h; segments = x.segments + 1 }) (fault_text (number_of fault) (codes " segment ") (x.segments + 1))
   unfinished h fault none some why = record {
     at = λ asked s i. subst (IsAtService asked y) (sym (does asked s i)) (made.at asked s i);
@@ -90,7 +90,7 @@ module _ (x : Service) where
 
 -- ---- An edit is put to those in hand.
 
-module _ (x : Service) (line : EditLine) (h : InHand) (pushed : (part : Part) → HasPart part x.in_hand → HasRead (with_edit_line (part_alone part) line) (with_line part line) h) where
+module _ (x : Service) (line : EditLine) (h : SegmentInHand) (pushed : (part : Part) → HasPart part x.in_hand → HasRead (with_edit_line (part_alone part) line) (with_line part line) h) where
   abbrev txid : ℕ
   txid = line.tx.txid
 
@@ -104,7 +104,7 @@ module _ (x : Service) (line : EditLine) (h : InHand) (pushed : (part : Part) �
       does : (asked : LiveSetup) (s : ServiceState) → keeps_edit line asked s ≡ puts_edit line s
       does asked s = ap (λ b. cond b (ends_segment asked (puts_edit line s)) (puts_edit line s)) isnt
 
-  pub kept_ended : (none : InHand) (z : Service) (told : List ℕ) → HasPart no_lines none → is_end line.tx.edit ≡ true
+  pub kept_ended : (none : SegmentInHand) (z : Service) (told : List ℕ) → HasPart no_lines none → is_end line.tx.edit ≡ true
       → ((read : Reading) (part : Part) → HasRead read part h → IsAllOf part read → FollowsStep (takes_segment part) (record x { in_hand = none; known = max x.known txid }) z told)
       → FollowsStep (keeps_edit line) x z told
   kept_ended none z told empty ends made = record {
@@ -146,12 +146,12 @@ module _ (line : EditLine) where
       at false e = refl
 
   -- it is in hand alone
-  pub taken_up : (none h : InHand) → is_start line.tx.edit ≡ true → HasPart no_lines none
+  pub taken_up : (none h : SegmentInHand) → is_start line.tx.edit ≡ true → HasPart no_lines none
       → ((part : Part) → HasPart part none → HasRead (with_edit_line (part_alone part) line) (with_line part line) h) → HasPart (with_line no_lines line) h
   taken_up none h starts empty pushed = still_open no_lines line h (starts_only starts) (pushed no_lines empty)
 
   -- those in hand ended, and it is in hand
-  pub begins : (x y : Service) (none h : InHand) (told : List ℕ) → is_start line.tx.edit ≡ true → FollowsStep (λ asked s. ends asked s) x y told → y.in_hand.edits ≡ 0 → HasPart no_lines none
+  pub begins : (x y : Service) (none h : SegmentInHand) (told : List ℕ) → is_start line.tx.edit ≡ true → FollowsStep (λ asked s. ends asked s) x y told → y.in_hand.edits ≡ 0 → HasPart no_lines none
       → ((part : Part) → HasPart part none → HasRead (with_edit_line (part_alone part) line) (with_line part line) h)
       → FollowsStep (λ asked s. takes_edit asked line s) x (record y { in_hand = h; known = max y.known line.tx.txid }) told
   begins x y none h told starts first over empty pushed =

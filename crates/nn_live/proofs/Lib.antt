@@ -10,7 +10,7 @@ pub mod Places
 pub mod Growing
 pub mod Breaking
 pub mod Pieces
-pub mod InHand
+pub mod SegmentInHand
 pub mod Handing
 pub mod Filling
 pub mod Applying
@@ -25,9 +25,12 @@ pub mod Replicas
 pub mod Gone
 pub mod Cutting
 pub mod BrokenPushes
-pub mod Opens
+pub mod ServedLines
+pub mod Behind
 pub mod Running
 pub mod Serves
+pub mod UnderWay
+pub mod Begins
 pub mod Promoting
 pub mod Answering
 pub mod Holders

@@ -12,7 +12,7 @@ use Rattle.nn_shadow.specs.Calls.{flushed}
 use Rattle.nn_shadow.specs.Contents.{Shadow, KeepsSettings, standby_of, last_number_in}
 use Rattle.nn_shadow.specs.Refusals.{Phase, flush_refusal}
 use Rattle.nn_live.specs.Live.{LiveSetup, ServiceState, says, tells_fault, ends_at, becomes_active, names, promotes, sees}
-use Rattle.nn_live.specs.Serving.{Service, InHand, HasPart, IsAtService, FollowsStep, forgetful, fault_text, in_epoch, log_ends, takes_promotion, takes_promotion_in}
+use Rattle.nn_live.specs.Serving.{Service, SegmentInHand, HasPart, IsAtService, FollowsStep, forgetful, fault_text, in_epoch, log_ends, takes_promotion, takes_promotion_in}
 use Rattle.nn_live.proofs.Handing.{told}
 use Rattle.nn_live.proofs.Places.{asks_still, only_tells, same_makes, then_makes}
 use Rattle.nn_live.proofs.Standing.{promotion}
@@ -69,7 +69,7 @@ module _ (x : Service) (txid : ℕ) (losing : Bool) where
           (between asked s i ∙ ap (λ b. cond b (becomes_active asked s) (tells_fault DISORDER (codes " txid ") (s.standby.last + 1) s)) isnt
           ∙ ap (λ (y : StandbyState). says (fault_text DISORDER (codes " txid ") (y.last + 1)) s) (sym i.standby)))
 
-      pub promoted : (z : Shadow) (h : InHand) → log_ends x.shadow.last x.known txid losing ≡ true
+      pub promoted : (z : Shadow) (h : SegmentInHand) → log_ends x.shadow.last x.known txid losing ≡ true
           → standby_of z ≡ flushed (standby_of x.shadow) → z.phase ≡ record x.shadow.phase { active = true } → z.numbers ≡ x.shadow.numbers → KeepsSettings x.shadow z → HasPart no_lines h
           → FollowsStep step x (forgetful (record x { shadow = z; in_hand = h; promoted = x.epoch })) (told x.history z)
       promoted z h ends done phase numbers settings none = record {

@@ -2,8 +2,8 @@
 use Rattle.std.proofs.Common.{◌≡◌, ◌⊎◌, ℕ, ◌+◌, ◌≤◌, Bool, true, false, List, [], ◌∷◌, ◌++◌, length, take, Option, Some, None, refl, sym, subst, ap, ◌∙◌, append-nil, arith, inl, inr, length-append}
 use Rattle.std.specs.Io.KnownBytes.{Consumes, Keeps}
 use Rattle.std.proofs.KnownBytes.{Consumes-nil, Consumes-trans}
-use Rattle.std.proofs.lemmas.List.{length-take}
 use Rattle.nn_device.specs.Device.{IsRefusal, Reader, Writer}
+use Rattle.nn_input.specs.Cut.{Came}
 use Rattle.nn_device.specs.Page.{Page, HasGone, HasPut}
 use Rattle.nn_device.specs.Parts.{TookPrefix}
 use Rattle.nn_device.specs.declared.writer.OutputFault.{OutputFault}
@@ -11,13 +11,11 @@ use Rattle.nn_device.specs.declared.writer.OutputFault.TheVariants.{WriteFailed}
 use Rattle.nn_run.specs.Output.{image_fault}
 use Rattle.nn_image.specs.declared.fault.ImageFault.{ImageFault}
 use Rattle.nn_live.specs.Live.{ended, refused, so_far, exit_status, told_so_far, written_of}
-use Rattle.nn_live.specs.Running.{EndsRun, GaveBytes, Halts, HaltsAtEnd, IsHalt, IsOfLines, IsCutOff, IsLiveOutput, IsReader, IsStage, IsToldAtOnce, IsUntaken, Run, asked_by, halt_text, live_output, serving_by}
-use Rattle.nn_live.specs.declared.run.EndFault.{EndFault}
-use Rattle.nn_live.specs.declared.run.EndFault.TheVariants as halt
+use Rattle.nn_live.specs.Running.{EndsRun, GaveBytes, Halts, HaltsAtEnd, IsHalt, IsCutOff, IsLiveOutput, IsReader, IsToldAtOnce, IsUntaken, Run, asked_by, halt_text, live_output, serving_by}
+use Rattle.nn_live.specs.declared.run.LiveEnd.{LiveEnd}
+use Rattle.nn_live.specs.declared.run.LiveEnd.TheVariants as halt
 use Rattle.nn_live.specs.declared.run.LiveOptions.{LiveOptions}
-use Rattle.nn_live.specs.declared.run.Stage.{Stage as RunStage}
-use Rattle.nn_live.specs.declared.run.Stage.TheVariants as stage
-use Rattle.nn_live.proofs.Running.{nothing_said, opening_told, so_far_told}
+use Rattle.nn_live.proofs.Running.{nothing_said}
 
 -- ---- What the reader gave.
 
@@ -26,20 +24,13 @@ given_none r = record { taken = Consumes-nil r.left; counted = omega arith }
 
 module _ (a b c : Reader) (bytes : List ℕ) (gave : GaveBytes a b bytes) where
   -- a read gave more
-  pub given_more : (n : ℕ) (buffer : List ℕ) → n ≤ length buffer → Consumes b.left c.left (take n buffer) → c.given ≡ b.given + n → GaveBytes a c (bytes ++ take n buffer)
-  given_more n buffer bound got counted = record {
-    taken = Consumes-trans a.left b.left c.left bytes (take n buffer) gave.taken got;
-    counted = omega (arith, length-append bytes (take n buffer), length-take n buffer, gave.counted, counted, bound);
+  pub given_more : (more : List ℕ) → Came b c more → GaveBytes a c (bytes ++ more)
+  given_more more came = record {
+    taken = Consumes-trans a.left b.left c.left bytes more gave.taken came.got;
+    counted = omega (arith, length-append bytes more, gave.counted, came.counted);
   }
 
-  -- the last one gave nothing
-  pub given_all : (n : ℕ) (buffer : List ℕ) → n ≡ 0 → Consumes b.left c.left (take n buffer) → c.given ≡ b.given + n → GaveBytes a c bytes
-  given_all n buffer none got counted = record {
-    taken = subst (Consumes a.left c.left) (append-nil bytes) (Consumes-trans a.left b.left c.left bytes [] gave.taken (subst (λ k. Consumes b.left c.left (take k buffer)) none got));
-    counted = omega (arith, gave.counted, counted, none);
-  }
-
-  -- a read that failed gave nothing either
+  -- a read that failed gave nothing
   pub given_still : Keeps b.left c.left → c.given ≡ b.given → GaveBytes a c bytes
   given_still keeps same = record { taken = at a.left b.left c.left gave.taken keeps; counted = omega (arith, gave.counted, same) }
     where
@@ -60,29 +51,6 @@ nothing_served o r = record {
   reader = refl;
   is = inl (inl (refl, refl));
 }
-
-pub lines_reader : (why : EndFault) (before after : Reader) → IsOfLines why → after.failed ≡ before.failed → IsReader why before after
-lines_reader (halt.Refused fault) before after of same = same
-lines_reader halt.Unreadable before after of same = absurd of
-lines_reader halt.OutOfMemory before after of same = same
-
-pub stage_told : (o : LiveOptions) (bytes told : List ℕ) (s : RunStage) → IsStage o bytes told s → told ≡ told_so_far (asked_by o) o.from_image bytes
-stage_told o bytes told (stage.Loading opening) is = opening_told o bytes told opening is.0 is.1 is.2
-stage_told o bytes told (stage.Serving live) is = so_far_told o bytes told live is
-
--- the lines of the last read say more, or break off
-pub told_at_once : (o : LiveOptions) (earlier last told more : List ℕ) (s : RunStage) → IsStage o earlier told s → length last ≤ 65536 → IsToldAtOnce o (earlier ++ last) (told ++ more)
-told_at_once o earlier last told more s is short =
-    record { earlier = earlier; last = last; are = refl; one_read = short; before = (more, ap (λ t. t ++ more) (stage_told o earlier told s is)) }
-
--- or the input has ended
-pub told_behind : (o : LiveOptions) (bytes told more : List ℕ) (s : RunStage) → IsStage o bytes told s → IsToldAtOnce o bytes (told ++ more)
-told_behind o bytes told more s is =
-    record { earlier = bytes; last = []; are = sym (append-nil bytes); one_read = omega arith; before = (more, ap (λ t. t ++ more) (stage_told o bytes told s is)) }
-
--- or no read was made
-pub told_all : (o : LiveOptions) (bytes told : List ℕ) (s : RunStage) → IsStage o bytes told s → IsToldAtOnce o bytes told
-told_all o bytes told s is = subst (IsToldAtOnce o bytes) (append-nil told) (told_behind o bytes told [] s is)
 
 -- ---- What it wrote.
 
@@ -137,10 +105,10 @@ untaken run bytes told (inl (inl none)) = inl none
 untaken run bytes told (inl (inr lacks)) = inr (inl lacks)
 untaken run bytes told (inr end) = inr (inr (end.1, end.2))
 
-pub halt_output : (run : Run) (told : List ℕ) (why : EndFault) → Halts run told why → IsLiveOutput run (record { text = told ++ halt_text why; status = 1 })
+pub halt_output : (run : Run) (told : List ℕ) (why : LiveEnd) → Halts run told why → IsLiveOutput run (record { text = told ++ halt_text why; status = 1 })
 halt_output run told why h = at why h.reader h.is
   where
-    at : (why : EndFault) → IsReader why run.before run.after → IsHalt run.options h.bytes told why ⊎ HaltsAtEnd run h.bytes told why → IsLiveOutput run (record { text = told ++ halt_text why; status = 1 })
+    at : (why : LiveEnd) → IsReader why run.before run.after → IsHalt run.options h.bytes told why ⊎ HaltsAtEnd run h.bytes told why → IsLiveOutput run (record { text = told ++ halt_text why; status = 1 })
     at (halt.Refused fault) reader (inl is) =
         inr (inl (record { bytes = h.bytes; gave = h.gave; at_once = subst (IsToldAtOnce run.options h.bytes) is.0 h.at_once; none_failed = reader; is = λ more. refused_output run.options (h.bytes ++ more) told fault is.0 (is.1 more) }))
     at (halt.Refused fault) reader (inr end) = let never : halt.Refused fault ≡ halt.OutOfMemory = end.0 in absurd (cc)

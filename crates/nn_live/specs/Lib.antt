@@ -12,7 +12,7 @@ pub mod TellingLaws
 pub mod TellingRows
 pub mod Serving
 pub mod Taking
-pub mod Opening
+pub mod Served
 pub mod Running
 pub mod SameRun
 pub mod RunningRows

@@ -2,19 +2,19 @@
 use Rattle.std.specs.Prelude.{◌≡◌, ◌⊎◌, ◌+◌, ◌^◌, ◌≤◌, ◌++◌, [], ℕ, Bool, true, List, length, Option, Some, None}
 use Rattle.std.specs.Io.KnownBytes.{Consumes, IsAtEnd}
 use Rattle.nn_device.specs.Device.{Reader, Writer, Took}
+use Rattle.nn_input.specs.Cut.{IsFresh, Lines, ahead}
+use Rattle.nn_model.specs.Namespace.{Namespace}
 use Rattle.nn_run.specs.Output.{image_fault}
 use Rattle.nn_run.specs.Run.{Unfinished, unread_line}
 use Rattle.nn_input.specs.declared.fault.InputFault.TheVariants.{ReadFailed, OutOfMemory}
 use Rattle.nn_run.specs.declared.output.RunFault.{RunFault}
-use Rattle.nn_live.specs.Live.{LiveSetup, ServiceState, stage_at_end, live_text, refused, so_far, exit_status, told_so_far}
-use Rattle.nn_live.specs.Opening.{IsOpening}
-use Rattle.nn_live.specs.Serving.{IsAtService, IsCutShort, IsPrefixOf}
-use Rattle.nn_live.specs.Taking.{LacksLine, Live, HasTorn, stage_after}
-use Rattle.nn_live.specs.declared.run.EndFault.{EndFault}
-use Rattle.nn_live.specs.declared.run.EndFault.TheVariants as halt
+use Rattle.nn_live.specs.Live.{LiveSetup, ServiceState, stage_at_end, live_text, new_service, refused, so_far, exit_status, told_so_far}
+use Rattle.nn_live.specs.Served.{HasServed, ServedInput}
+use Rattle.nn_live.specs.Serving.{IsCutShort, IsPrefixOf}
+use Rattle.nn_live.specs.Taking.{LacksLine, stage_after}
+use Rattle.nn_live.specs.declared.run.LiveEnd.{LiveEnd}
+use Rattle.nn_live.specs.declared.run.LiveEnd.TheVariants as halt
 use Rattle.nn_live.specs.declared.run.LiveOptions.{LiveOptions}
-use Rattle.nn_live.specs.declared.run.Stage.{Stage as RunStage}
-use Rattle.nn_live.specs.declared.run.Stage.TheVariants as stage
 
 -- ---- What it is asked for, and what it was given.
 
@@ -146,49 +146,60 @@ pub record WroteLivePrefix (run : Run) (writer writer' : Writer) (fault : RunFau
 
 -- ---- For private clauses.
 
--- a service of the code is where the definition is, for which these bytes came and this text was told
-pub record IsServing (o : LiveOptions) (bytes told : List ℕ) (x : Live) : Type 0 where
-  pub now : ServiceState
-  pub torn : List ℕ
-  pub at : IsAtService (asked_by o) x.service now
-  pub has : HasTorn torn x.torn
-  pub written : now.written ≡ told
-  pub same : (more : List ℕ) → so_far (asked_by o) o.from_image (bytes ++ more) ≡ stage_after (asked_by o) now (torn ++ more)
+-- whatever follows these bytes, a service is here: an image ends with them, or none was asked for, and there are none
+abbrev pub StandsBehind : LiveOptions → List ℕ → ServiceState → Type 0
+StandsBehind o image s = (more : List ℕ) → so_far (asked_by o) o.from_image (image ++ more) ≡ stage_after (asked_by o) s more
 
-abbrev pub IsStage : LiveOptions → List ℕ → List ℕ → RunStage → Type 0
-IsStage o bytes told (stage.Loading opening) = (o.from_image ≡ true) × (told ≡ []) × IsOpening bytes opening
-IsStage o bytes told (stage.Serving live) = IsServing o bytes told live
+-- its reader gave these bytes, no read failed, and of them this was told
+pub record HasTold (run : Run) (bytes told : List ℕ) : Type 0 where
+  pub gave : GaveBytes run.before run.after bytes
+  pub none_failed : NoReadFailed run
+  pub at_once : IsToldAtOnce run.options bytes told
+
+-- A service begins at this namespace and its txid. What is ahead is not taken.
+pub record BeginsAt (run : Run) (n : Namespace) (txid : ℕ) (l : Lines) : Type 0 where
+  pub bytes : List ℕ
+  pub come : HasTold run bytes []
+  pub image : List ℕ
+  pub are : bytes ≡ image ++ ahead l
+  pub behind : StandsBehind run.options image (new_service n txid)
+  pub fresh : IsFresh l
+
+-- A service has begun behind an image, which may be none. The lines behind it are taken as far as they are cut, and this was told.
+pub record IsUnderWay (run : Run) (told : List ℕ) (x : ServedInput) : Type 0 where
+  pub bytes : List ℕ
+  pub come : HasTold run bytes told
+  pub image : List ℕ
+  pub rest : List ℕ
+  pub are : bytes ≡ image ++ rest
+  pub first : ServiceState
+  pub behind : StandsBehind run.options image first
+  pub served : HasServed (asked_by run.options) first rest told x
 
 -- why it ends, where these bytes came, and this text was told
-abbrev pub IsHalt : LiveOptions → List ℕ → List ℕ → EndFault → Type 0
+abbrev pub IsHalt : LiveOptions → List ℕ → List ℕ → LiveEnd → Type 0
 IsHalt o bytes told (halt.Refused fault) = (told ≡ []) × ((more : List ℕ) → (so_far (asked_by o) o.from_image (bytes ++ more)).0 ≡ refused fault)
 IsHalt o bytes told halt.Unreadable = told ≡ lines_say o bytes
 IsHalt o bytes told halt.OutOfMemory = ((bytes ≡ []) × (told ≡ [])) ⊎ LacksLine (lines_say o) bytes told
 
 -- or the input has ended
-abbrev pub HaltsAtEnd : Run → List ℕ → List ℕ → EndFault → Type 0
+abbrev pub HaltsAtEnd : Run → List ℕ → List ℕ → LiveEnd → Type 0
 HaltsAtEnd run bytes told why = (why ≡ halt.OutOfMemory) × IsAtEnd run.after.left × LacksEnd run.options bytes told
 
 -- the line that tells it
-abbrev pub halt_text : EndFault → List ℕ
+abbrev pub halt_text : LiveEnd → List ℕ
 halt_text (halt.Refused fault) = (image_fault fault).text
 halt_text halt.Unreadable = unread_line ReadFailed
 halt_text halt.OutOfMemory = unread_line OutOfMemory
 
 -- and what it says of the reader
-abbrev pub IsReader : EndFault → Reader → Reader → Type 0
+abbrev pub IsReader : LiveEnd → Reader → Reader → Type 0
 IsReader (halt.Refused fault) before after = after.failed ≡ before.failed
 IsReader halt.Unreadable before after = (after.failed ≡ true) × IsCutOff before after
 IsReader halt.OutOfMemory before after = after.failed ≡ before.failed
 
--- a reason that lines give
-abbrev pub IsOfLines : EndFault → Type 0
-IsOfLines (halt.Refused fault) = Unit {0}
-IsOfLines halt.Unreadable = ⊥
-IsOfLines halt.OutOfMemory = Unit {0}
-
 -- the reader gave some bytes, and it ends for this reason, before it reads again
-pub record Halts (run : Run) (told : List ℕ) (why : EndFault) : Type 0 where
+pub record Halts (run : Run) (told : List ℕ) (why : LiveEnd) : Type 0 where
   pub bytes : List ℕ
   pub gave : GaveBytes run.before run.after bytes
   pub at_once : IsToldAtOnce run.options bytes told

@@ -27,7 +27,7 @@ use Rattle.nn_live.specs.Live.{LiveSetup, ServiceState, applies, behind_edit, en
 -- ---- What the code has.
 
 -- of the edits in hand
-pub record InHand : Type 0 where
+pub record SegmentInHand : Type 0 where
   pub check : SegmentCheck
   pub txs : List Tx
   pub edits : ℕ
@@ -35,7 +35,7 @@ pub record InHand : Type 0 where
 
 pub record Service : Type 0 where
   pub shadow : Shadow  -- its history is empty
-  pub in_hand : InHand
+  pub in_hand : SegmentInHand
   pub history : Bool  -- whether events are told
   pub version : List ℕ
   pub known : ℕ
@@ -111,7 +111,7 @@ tables_seen n lanes x =
 -- ---- It stands for the definition's.
 
 -- This was read, and these are its edits. Where they may be a segment, all their transactions are there.
-pub record HasRead (read : Reading) (part : Part) (x : InHand) : Type 0 where
+pub record HasRead (read : Reading) (part : Part) (x : SegmentInHand) : Type 0 where
   pub check : IsCheckOf read x.check
   pub whole : length part.bytes ≤ max_bytes → x.txs ≡ part.txs
   pub edits : x.edits ≡ length part.txs
@@ -122,7 +122,7 @@ abbrev pub part_alone : Part → Reading
 part_alone part = record { parts = []; in_hand = part; steps = [] }
 
 -- the code has the edits of this part, which has not ended
-abbrev pub HasPart : Part → InHand → Type 0
+abbrev pub HasPart : Part → SegmentInHand → Type 0
 HasPart part x = HasRead (part_alone part) part x
 
 -- this part is all that was read, whether it has ended or not

@@ -20,7 +20,7 @@ const MAX_LINES: u64 = 4_611_686_018_427_387_903;
 /// The edits in hand. Each is checked as it comes, and its transaction is kept until the segment ends. Of a segment that has become
 /// too long none is kept.
 #[derive(Debug, Drop)]
-pub(crate) struct InHand {
+pub(crate) struct SegmentInHand {
     check: SegmentCheck,
     txs: Vec<Tx>,
     // how many edits came, and the txid of the last one
@@ -28,23 +28,23 @@ pub(crate) struct InHand {
     last: u64,
 }
 
-impl Model for InHand {
+impl Model for SegmentInHand {
     ghost use Rattle.std.specs.Prelude.{◌≤◌, ◌<◌, ◌+◌, ◌^◌};
-    ghost use Rattle.nn_live.specs.Serving.{InHand};
+    ghost use Rattle.nn_live.specs.Serving.{SegmentInHand};
 
-    ghost Value = { InHand };
+    ghost Value = { SegmentInHand };
 
     ghost view = { λ h. record { check = h.check; txs = h.txs.items; edits = h.edits; last = h.last } };
 
     ghost invariant = { λ h. (h.check.ended + h.check.lines ≤ h.edits) × (h.edits < 2 ^ 62) };
 }
 
-impl InHand {
+impl SegmentInHand {
     /// No edits. Takes no memory.
-    pub(crate) fn none(alloc: Global) -> InHand
+    pub(crate) fn none(alloc: Global) -> SegmentInHand
         ensures { HasPart no_lines result }
     {
-        InHand {
+        SegmentInHand {
             check: SegmentCheck::new(),
             txs: Vec::new(alloc),
             edits: 0,
@@ -117,7 +117,7 @@ impl InHand {
         ensures { (read : Reading) (part : Part) → HasRead read part self → IsAllOf part read
             → MatchResult result (λ txs. (g : Segment) × (segment_of part ≡ Ok g) × IsSegment g × (g.txs ≡ txs.items)) (λ fault. segment_of part ≡ Err fault) }
     {
-        let InHand { check, txs, .. } = self;
+        let SegmentInHand { check, txs, .. } = self;
         match check.into_bad() {
             Some(bad) => Err(bad.fault),
             None => Ok(txs),

@@ -1,5 +1,5 @@
 //! A standby in service whose input comes in chunks.
-ghost use Rattle.std.specs.Prelude.{◌≡◌, ◌∷◌, ◌++◌, [], List, ℕ, true, IfErr, IsErrOf, OnOk, if◌then◌else◌, is_some};
+ghost use Rattle.std.specs.Prelude.{◌≡◌, ◌∷◌, ◌++◌, [], List, ℕ, true, IfErr, IsErrOf, OnOk};
 ghost use Rattle.nn_bytes.specs.Lines.{line_feed};
 ghost use Rattle.nn_device.specs.Page.{PutsPiece};
 ghost use Rattle.nn_bytes.specs.Pieces.{is_unbroken};
@@ -52,16 +52,6 @@ impl Live {
             service,
             torn: Torn::none(alloc),
             scratch: Scratch::new(alloc),
-        }
-    }
-
-    /// The status that a process ends with: 1 where the log was stopped.
-    pub(crate) fn status(&self) -> u8
-        ensures { result ≡ (if is_some self.now.service.shadow.phase.stopped then 1 else 0) }
-    {
-        match self.service.standby().stop() {
-            Some(_) => 1,
-            None => 0,
         }
     }
 

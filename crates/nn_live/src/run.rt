@@ -1,29 +1,22 @@
 //! A standby in service: from a reader's bytes to a writer's.
-ghost use Rattle.std.specs.Prelude.{◌≡◌, ◌<◌, ◌-◌, ◌^◌, ◌++◌, [], List, ℕ, false, length, IfOk, IfErr, OnErr, OnOk};
-ghost use Rattle.std.specs.Io.{ReadsAtMost};
-ghost use Rattle.std.specs.Io.KnownBytes.{ReadConsumes};
-ghost use Rattle.nn_device.specs.Device.{FailedToReadOn, GaveOn, Took, Writer as WriterView};
+ghost use Rattle.std.specs.Prelude.{◌≡◌, ◌<◌, ◌-◌, ◌^◌, [], List, ℕ, false, ◌++◌, IfOk, IfErr, OnErr};
+ghost use Rattle.nn_device.specs.Device.{Reader as ReaderView, Took, Writer as WriterView};
 ghost use Rattle.nn_device.specs.Page.{HasPut, PutsPiece};
+ghost use Rattle.nn_input.specs.Cut.{IsFresh, ahead};
 ghost use Rattle.nn_run.specs.Run.{Unfinished};
-ghost use Rattle.nn_live.specs.Live.{new_service, live_text};
-ghost use Rattle.nn_live.specs.Running.{Halts, IsEnd, IsHalt, IsOfLines, IsStage, LacksEnd, WroteLive, WroteLivePrefix, asked_by, halt_text, live_output, serving_by};
-ghost use Rattle.nn_live.specs.Serving.{IsAtService};
-ghost use Rattle.nn_live.specs.Taking.{HasTorn};
+ghost use Rattle.nn_live.specs.Running.{BeginsAt, Halts, IsEnd, IsLiveOutput, IsUnderWay, WroteLive, WroteLivePrefix, halt_text, serving_by};
+ghost use Rattle.nn_live.specs.Served.{ReadsAhead, StopsReading};
 
-use crate::live::Live;
-use crate::opening::{Opened, Opening};
-use crate::service::{Service, ServiceFault};
+use crate::served::ServedInput;
+use crate::service::Service;
 use nn_device::{Page, ReadFailed, Reader, Writer};
-use nn_image::ImageFault;
+use nn_image::{ImageFault, load_at_once};
+use nn_input::{Lines, LinesFault};
 use nn_run::{InputFault, RunEnd, RunFault, put_image_fault, unread_line};
 use nn_tree::Namespace;
-use nn_types::Settings;
-use std::alloc::{AllocError, Global};
+use nn_types::{Settings, Txid};
+use std::alloc::Global;
 use std::io::{Read, Write};
-use std::mem;
-
-/// The bytes that one read asks for.
-const BUFFER: usize = 65_536;
 
 /// What a service is asked for.
 #[derive(Clone, Copy, Debug, PartialEq, Eq)]
@@ -41,35 +34,15 @@ pub struct LiveOptions {
     pub leave_memory: bool,
 }
 
-/// Why a service ends before its input does.
+/// Why a service ends before its input does, or none begins.
 #[derive(Clone, Copy, Debug, PartialEq, Eq)]
-enum EndFault {
+enum LiveEnd {
     /// No image has such a line.
     Refused(ImageFault),
     /// A read failed.
     Unreadable,
     /// Memory was refused, or a count has come to its end.
     OutOfMemory,
-}
-
-impl From<AllocError> for EndFault {
-    ghost use Rattle.nn_live.specs.declared.run.EndFault.TheVariants.{OutOfMemory};
-
-    ghost from_gives = { λ _ e. e ≡ OutOfMemory };
-
-    fn from(_e: AllocError) -> EndFault {
-        EndFault::OutOfMemory
-    }
-}
-
-impl From<ServiceFault> for EndFault {
-    ghost use Rattle.nn_live.specs.declared.run.EndFault.TheVariants.{OutOfMemory};
-
-    ghost from_gives = { λ _ e. e ≡ OutOfMemory };
-
-    fn from(_e: ServiceFault) -> EndFault {
-        EndFault::OutOfMemory
-    }
 }
 
 /// Serves an input to its end: each line is taken when it has come, and what it says is written before the next read. A read
@@ -86,13 +59,17 @@ pub fn run_live<R: Read, W: Write>(
 {
     let before = writer.taken();
     let mut page = Page::new(alloc);
-    match serve(alloc, options, input, &mut page, writer) {
-        Ok(Some(status)) => finish(page, writer, before, status),
-        Ok(None) => Err(unwritten(before, writer)),
-        Err(halt) => {
-            halt.put(&mut page, writer);
-            finish(page, writer, before, 1)
+    let mut served = match begin(alloc, options, input) {
+        Ok(served) => served,
+        Err(why) => return halt(page, writer, before, why),
+    };
+    match serve(&mut served, input, &mut page, writer) {
+        Ok(Some(status)) => {
+            served.leave(options.leave_memory);
+            finish(page, writer, before, status)
         }
+        Ok(None) => Err(unwritten(before, writer)),
+        Err(why) => halt(page, writer, before, why),
     }
 }
 
@@ -115,183 +92,136 @@ fn finish<W: Write>(
     }
 }
 
-// Serves an input to its end. The status behind it, or none where a write failed.
-fn serve<R: Read, W: Write>(
+// Tells why it ends, and that is the end of its text.
+fn halt<W: Write>(
+    mut page: Page,
+    writer: &mut Writer<W>,
+    before: u64,
+    why: LiveEnd,
+) -> Result<RunEnd, RunFault>
+    ensures written { IfOk result (λ end. (end.status ≡ 1)
+        × ((start : WriterView) (text : List ℕ) → HasPut start text page writer.old → Took start writer.new (text ++ halt_text why))) }
+    ensures prefix { IfErr result (λ fault. (start : WriterView) (text : List ℕ) → HasPut start text page writer.old
+        → before ≡ start.taken → Unfinished start writer.new (text ++ halt_text why) fault) }
+{
+    why.put(&mut page, writer);
+    finish(page, writer, before, 1)
+}
+
+// What is served: a service at the namespace to begin at, and the lines that follow.
+fn begin<R: Read>(
     alloc: Global,
     options: &LiveOptions,
     input: &mut Reader<R>,
+) -> Result<ServedInput, LiveEnd>
+    ensures begun { IfOk result (IsUnderWay (serving_by options.now input.old input.new) []) }
+    ensures output { IfErr result (λ why. IsLiveOutput (serving_by options.now input.old input.new) (record { text = halt_text why; status = 1 })) }
+{
+    let Ok(mut lines) = Lines::new(alloc) else {
+        return Err(LiveEnd::OutOfMemory);
+    };
+    let (namespace, txid) = match begin_at(alloc, options, &mut lines, input) {
+        Ok(at) => at,
+        Err(why) => return Err(why),
+    };
+    let Ok(service) = Service::begin(
+        alloc,
+        namespace,
+        txid.get(),
+        options.settings,
+        options.history,
+        options.version,
+    ) else {
+        return Err(LiveEnd::OutOfMemory);
+    };
+    Ok(ServedInput::of(alloc, service, lines))
+}
+
+// The namespace to begin at, and its txid: the root alone and 0, or where an image is asked for, those of the image that the input
+// begins with. Nothing is told while that is loaded. Behind one that the input ends in, or that has a bad line, nothing is served.
+fn begin_at<R: Read>(
+    alloc: Global,
+    options: &LiveOptions,
+    lines: &mut Lines,
+    input: &mut Reader<R>,
+) -> Result<(Namespace, Txid), LiveEnd>
+    requires fresh { IsFresh lines.old }
+    requires none { ahead lines.old ≡ [] }
+    ensures begins { IfOk result (λ at. BeginsAt (serving_by options.now input.old input.new) at.0 at.1 lines.new) }
+    ensures output { IfErr result (λ why. IsLiveOutput (serving_by options.now input.old input.new) (record { text = halt_text why; status = 1 })) }
+{
+    if !options.from_image {
+        return Ok((Namespace::new(alloc), Txid::ZERO));
+    }
+    match load_at_once(alloc, lines, input) {
+        Ok(Ok(image)) => Ok(image),
+        Ok(Err(fault)) => Err(LiveEnd::Refused(fault)),
+        Err(LinesFault::ReadFailed) => Err(LiveEnd::Unreadable),
+        Err(LinesFault::OutOfMemory) => Err(LiveEnd::OutOfMemory),
+    }
+}
+
+// Serves an input to its end. The status behind it, or none where a write failed.
+fn serve<R: Read, W: Write>(
+    served: &mut ServedInput,
+    input: &mut Reader<R>,
     page: &mut Page,
     writer: &mut Writer<W>,
-) -> Result<Option<u8>, EndFault>
-    requires empty { page.old.left ≡ [] }
-    requires open { page.old.lost ≡ false }
-    ensures ended { IfOk result (λ end. (told : List ℕ) × PutsPiece told page.old writer.old page.new writer.new × IsEnd (serving_by options.now input.old input.new) told page.new.lost end) }
-    ensures halted { IfErr result (λ why. (told : List ℕ) × PutsPiece told page.old writer.old page.new writer.new × Halts (serving_by options.now input.old input.new) told why) }
+) -> Result<Option<u8>, LiveEnd>
+    requires begun { (options : LiveOptions) × (before : ReaderView) × IsUnderWay (serving_by options before input.old) [] served.old }
+    ensures ended { IfOk result (λ end. (told : List ℕ) × PutsPiece told page.old writer.old page.new writer.new
+        × ((options : LiveOptions) (before : ReaderView) → IsUnderWay (serving_by options before input.old) [] served.old
+        → IsEnd (serving_by options before input.new) told page.new.lost end)) }
+    ensures halted { IfErr result (λ why. (told : List ℕ) × PutsPiece told page.old writer.old page.new writer.new
+        × ((options : LiveOptions) (before : ReaderView) → IsUnderWay (serving_by options before input.old) [] served.old
+        → Halts (serving_by options before input.new) told why)) }
 {
-    let mut stage = Stage::new(alloc, options)?;
-    let mut buffer = new_buffer(alloc, BUFFER)?;
     'reads: loop {
-        let Ok(n) = read_next(input, page, &mut buffer) else {
-            return Err(EndFault::Unreadable);
+        let Ok(()) = served.take_lines(page, writer) else {
+            return Err(LiveEnd::OutOfMemory);
         };
-        if n == 0 {
-            let status = stage.end(options.leave_memory, page, writer)?;
-            return Ok(Some(status));
-        }
-        stage.push(alloc, options, page, writer, &buffer[..n])?;
         page.flush(writer);
         if page.has_failed() {
             return Ok(None);
         }
+        let Ok(more) = read_next(served, page, input) else {
+            return Err(LiveEnd::Unreadable);
+        };
+        if !more {
+            let Ok(()) = served.end(page, writer) else {
+                return Err(LiveEnd::OutOfMemory);
+            };
+            return Ok(Some(served.exit_status()));
+        }
     }
-}
-
-// A buffer of so many bytes. The size is a parameter so that no proof has to look at the buffer's cells one by one.
-fn new_buffer(alloc: Global, size: usize) -> Result<Vec<u8>, AllocError>
-    ensures { IfOk result (λ v. length v.items ≡ size) }
-{
-    vec![in alloc; 0u8; size]
 }
 
 // The next bytes, for which it may wait for long. Nothing that was told is kept back then, and no write has failed: who serves
 // behind one would follow a log that nobody sees.
 fn read_next<R: Read>(
-    input: &mut Reader<R>,
+    served: &mut ServedInput,
     _page: &Page,
-    buffer: &mut [u8],
-) -> Result<usize, ReadFailed>
+    input: &mut Reader<R>,
+) -> Result<bool, ReadFailed>
+    requires taken { ahead served.old.lines ≡ [] }
     requires written { _page.now.left ≡ [] }
     requires open { _page.now.lost ≡ false }
-    ensures bound { ReadsAtMost result buffer.new }
-    ensures bytes { ReadConsumes input.old.left input.new.left result buffer.new }
-    ensures ok { IfOk result (GaveOn input.old input.new) }
-    ensures err { OnErr result (FailedToReadOn input.old input.new) }
+    ensures ok { IfOk result (λ more. ReadsAhead more input.old input.new served.old served.new) }
+    ensures failed { OnErr result (StopsReading input.old input.new) }
 {
-    input.read_on(buffer)
+    served.read_on(input)
 }
 
-impl EndFault {
+impl LiveEnd {
     // Puts the line that tells it.
     fn put<W: Write>(self, page: &mut Page, writer: &mut Writer<W>)
         ensures { PutsPiece (halt_text self) page.old writer.old page.new writer.new }
     {
         match self {
-            EndFault::Refused(fault) => put_image_fault(page, writer, fault),
-            EndFault::Unreadable => page.put(writer, unread_line(InputFault::ReadFailed)),
-            EndFault::OutOfMemory => page.put(writer, unread_line(InputFault::OutOfMemory)),
+            LiveEnd::Refused(fault) => put_image_fault(page, writer, fault),
+            LiveEnd::Unreadable => page.put(writer, unread_line(InputFault::ReadFailed)),
+            LiveEnd::OutOfMemory => page.put(writer, unread_line(InputFault::OutOfMemory)),
         }
-    }
-}
-
-/// Where in its input a service is.
-#[derive(Drop)]
-enum Stage {
-    Loading(Opening),
-    Serving(Live),
-}
-
-impl Stage {
-    // Before the first byte.
-    fn new(alloc: Global, options: &LiveOptions) -> Result<Stage, EndFault>
-        ensures stage { IfOk result (IsStage options.now [] []) }
-        ensures memory { IfErr result (λ why. why ≡ EndFault.OutOfMemory) }
-    {
-        if options.from_image {
-            return Ok(Stage::Loading(Opening::new(alloc)));
-        }
-        Ok(Stage::Serving(live_from(alloc, options, Namespace::new(alloc), 0)?))
-    }
-
-    // The next bytes.
-    fn push<W: Write>(
-        &mut self,
-        alloc: Global,
-        options: &LiveOptions,
-        page: &mut Page,
-        writer: &mut Writer<W>,
-        bytes: &[u8],
-    ) -> Result<(), EndFault>
-        ensures ok { OnOk result ((more : List ℕ) × PutsPiece more page.old writer.old page.new writer.new
-            × ((before told : List ℕ) → IsStage options.now before told self.old → IsStage options.now (before ++ bytes.now) (told ++ more) self.new)) }
-        ensures err { IfErr result (λ why. (more : List ℕ) × PutsPiece more page.old writer.old page.new writer.new
-            × ((before told : List ℕ) → IsStage options.now before told self.old → IsHalt options.now (before ++ bytes.now) (told ++ more) why)) }
-        ensures why { IfErr result (λ why. IsOfLines why) }
-    {
-        match self {
-            Stage::Loading(opening) => {
-                match opening.push(alloc, bytes)? {
-                    Opened::Loading => Ok(()),
-                    Opened::Refused(fault) => Err(EndFault::Refused(fault)),
-                    Opened::Loaded(namespace, txid, rest) => {
-                        let mut live = live_from(alloc, options, namespace, txid.get())?;
-                        live.push(page, writer, rest)?;
-                        *self = Stage::Serving(live);
-                        Ok(())
-                    }
-                }
-            }
-            Stage::Serving(live) => Ok(live.push(page, writer, bytes)?),
-        }
-    }
-
-    // The input has ended. The status that this has. The service is freed, or left to the end of the process.
-    fn end<W: Write>(
-        self,
-        leave_memory: bool,
-        page: &mut Page,
-        writer: &mut Writer<W>,
-    ) -> Result<u8, EndFault>
-        ensures ok { IfOk result (λ status. (more : List ℕ) × PutsPiece more page.old writer.old page.new writer.new
-            × ((options : LiveOptions) (input told : List ℕ) → IsStage options input told self → record { text = told ++ more; status = status } ≡ live_output options input)) }
-        ensures err { IfErr result (λ why. (why ≡ EndFault.OutOfMemory) × ((more : List ℕ) × PutsPiece more page.old writer.old page.new writer.new
-            × ((options : LiveOptions) (input told : List ℕ) → IsStage options input told self → LacksEnd options input (told ++ more)))) }
-    {
-        match self {
-            Stage::Loading(_) => {
-                put_image_fault(page, writer, ImageFault::Truncated);
-                Ok(1)
-            }
-            Stage::Serving(mut live) => {
-                live.end(page, writer)?;
-                let status = live.status();
-                leave(live, leave_memory);
-                Ok(status)
-            }
-        }
-    }
-}
-
-// A service is freed, or left to the end of the process.
-fn leave(live: Live, leave_memory: bool) {
-    if leave_memory {
-        mem::forget(live);
-    } else {
-        drop(live);
-    }
-}
-
-// A service that begins at a namespace.
-fn live_from(
-    alloc: Global,
-    options: &LiveOptions,
-    namespace: Namespace,
-    txid: u64,
-) -> Result<Live, EndFault>
-    requires { txid < 2 ^ 63 }
-    ensures at { IfOk result (λ live. IsAtService (asked_by options.now) live.service (new_service namespace txid)) }
-    ensures torn { IfOk result (λ live. HasTorn [] live.torn) }
-    ensures memory { IfErr result (λ why. why ≡ EndFault.OutOfMemory) }
-{
-    match Service::begin(
-        alloc,
-        namespace,
-        txid,
-        options.settings,
-        options.history,
-        options.version,
-    ) {
-        Ok(service) => Ok(Live::of(alloc, service)),
-        Err(_) => Err(EndFault::OutOfMemory),
     }
 }
 

@@ -12,7 +12,7 @@ mod promotion;
 mod reports;
 
 use crate::full::FullReports;
-use crate::in_hand::InHand;
+use crate::in_hand::SegmentInHand;
 use nn_device::{Page, Writer};
 use nn_listing::put_history;
 use nn_shadow::{FromFault, Shadow};
@@ -36,7 +36,7 @@ pub enum ServiceFault {
 #[derive(Debug, Drop)]
 pub struct Service {
     shadow: Shadow,
-    in_hand: InHand,
+    in_hand: SegmentInHand,
     // whether events are told
     history: bool,
     version: &'static str,
@@ -87,7 +87,7 @@ impl Service {
         let shadow = Shadow::from(alloc, namespace, txid, MAX_DATANODES, settings)?;
         Ok(Service {
             shadow,
-            in_hand: InHand::none(alloc),
+            in_hand: SegmentInHand::none(alloc),
             history,
             version,
             min: settings.min(),

@@ -12,7 +12,7 @@ ghost use Rattle.nn_live.specs.Live.{ends, follows, follows_txs, takes_edit};
 ghost use Rattle.nn_live.specs.Serving.{Breaks, BreaksOff, HasRead, IsAllOf, IsNearEnd, HasPart, FollowsStep, SaysMore, ServiceSteps, keeps_edit, takes_segment, takes_tx};
 
 use super::{Service, ServiceFault};
-use crate::in_hand::InHand;
+use crate::in_hand::SegmentInHand;
 use crate::texts::{put_fault, put_gap};
 use nn_device::{Page, Writer};
 use nn_segment::{is_end, is_start};
@@ -42,7 +42,7 @@ impl Service {
             return self.keep_edit(page, writer, text, tx);
         }
         let txid = tx.txid.get();
-        let mut begun = InHand::none(self.alloc);
+        let mut begun = SegmentInHand::none(self.alloc);
         begun.push(text, tx)?;
         self.end_edits(page, writer)?;
         self.take_up(begun, txid);
@@ -50,7 +50,7 @@ impl Service {
     }
 
     // These edits are in hand from now on, up to this txid.
-    fn take_up(&mut self, begun: InHand, last: u64)
+    fn take_up(&mut self, begun: SegmentInHand, last: u64)
         requires { (part : Part) × HasPart part begun }
         ensures { self.new ≡ record self.old { in_hand = begun; known = max self.old.known last } }
     {
@@ -76,7 +76,7 @@ impl Service {
             return Ok(());
         }
         self.count_segment()?;
-        let in_hand = mem::replace(&mut self.in_hand, InHand::none(self.alloc));
+        let in_hand = mem::replace(&mut self.in_hand, SegmentInHand::none(self.alloc));
         let fault = in_hand.into_fault();
         put_fault(page, writer, fault.number(), " segment ", self.segments);
         Ok(())
@@ -104,7 +104,7 @@ impl Service {
         if !ends {
             return Ok(());
         }
-        let in_hand = mem::replace(&mut self.in_hand, InHand::none(self.alloc));
+        let in_hand = mem::replace(&mut self.in_hand, SegmentInHand::none(self.alloc));
         self.end_segment(page, writer, in_hand)
     }
 
@@ -113,7 +113,7 @@ impl Service {
         &mut self,
         page: &mut Page,
         writer: &mut Writer<W>,
-        in_hand: InHand,
+        in_hand: SegmentInHand,
     ) -> Result<(), ServiceFault>
         requires edits { (read : Reading) × (part : Part) × HasRead read part in_hand × IsAllOf part read }
         requires none { HasPart no_lines self.old.in_hand }

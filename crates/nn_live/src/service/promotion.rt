@@ -5,7 +5,7 @@ ghost use Rattle.nn_live.specs.Live.{names, sees};
 ghost use Rattle.nn_live.specs.Serving.{FollowsStep, ServiceSteps, closed, in_epoch, log_ends, takes_promotion, takes_promotion_in};
 
 use super::{Service, ServiceFault};
-use crate::in_hand::InHand;
+use crate::in_hand::SegmentInHand;
 use crate::texts::put_fault;
 use nn_device::{Page, Writer};
 use nn_types::fault;
@@ -89,7 +89,7 @@ impl Service {
         let Ok(_) = self.shadow.flush() else {
             return Err(ServiceFault::OutOfMemory);
         };
-        self.in_hand = InHand::none(self.alloc);
+        self.in_hand = SegmentInHand::none(self.alloc);
         self.promoted = self.epoch;
         self.tell_events(page, writer);
         Ok(())

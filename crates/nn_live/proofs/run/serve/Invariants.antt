@@ -1,13 +1,15 @@
-use Rattle.std.proofs.Common.{◌≡◌, ◌<◌, ◌-◌, ◌^◌, ℕ, List, [], false, length}
+use Rattle.std.proofs.Common.{◌-◌, ◌^◌, ℕ, List, []}
+use Rattle.nn_device.specs.Device.{Reader}
 use Rattle.nn_device.specs.Page.{PutsPiece}
-use Rattle.nn_live.specs.Running.{GaveBytes, IsStage}
+use Rattle.nn_live.specs.Running.{IsUnderWay, serving_by}
+use Rattle.nn_live.specs.declared.run.LiveOptions.{LiveOptions}
 use Rattle.nn_live.proofs.run.serve.Given as goal
 
--- the reader gave some bytes, what their lines say was told, nothing of that waits to be written, and no read and no write failed
+-- the service is under way, and this was told
 abbrev pub invariant-reads : goal.invariant-reads
 invariant-reads g l =
-    (bytes : List ℕ) × (told : List ℕ) × GaveBytes l.fn.input l.input bytes × PutsPiece told l.fn.page l.fn.writer l.page l.writer × IsStage l.options bytes told l.stage
-    × (l.page.left ≡ []) × (length l.buffer.items ≡ 65536) × (l.input.failed ≡ l.fn.input.failed) × (l.page.lost ≡ false)
+    (told : List ℕ) × PutsPiece told l.fn.page l.fn.writer l.page l.writer
+    × ((options : LiveOptions) (before : Reader) → IsUnderWay (serving_by options before l.fn.input) [] l.fn.served → IsUnderWay (serving_by options before l.input) told l.served)
 
 abbrev pub decreases-reads : goal.decreases-reads
 decreases-reads g l = 2 ^ 62 - l.input.given

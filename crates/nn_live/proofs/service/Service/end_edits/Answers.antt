@@ -3,7 +3,7 @@ use Rattle.nn_device.proofs.Pages.{puts_nothing}
 use Rattle.nn_segment.specs.Fault.{number_of}
 use Rattle.nn_live.specs.Live.{ends}
 use Rattle.nn_live.specs.contracts.service.Service.{the_view as seen_of}
-use Rattle.nn_live.specs.Serving.{Service, InHand, HasPart, FollowsStep, fault_text}
+use Rattle.nn_live.specs.Serving.{Service, SegmentInHand, HasPart, FollowsStep, fault_text}
 use Rattle.nn_live.proofs.BrokenEdits.{ends_say}
 use Rattle.nn_live.proofs.Editing.{none_in_hand, unfinished}
 use Rattle.nn_live.proofs.Places.{nothing_done, on_err}
@@ -27,7 +27,7 @@ returns-clause-ok g c =
     let text = fault_text c.number.result (codes " segment ") (seen_of c.self-2.inside).segments in
     let spelled : fault_text (number_of fault) (codes " segment ") (x.segments + 1) ≡ text = ap₂ (λ n k. fault_text n (codes " segment ") k) (sym c.number.ensures) (ap (λ (v : Service). v.segments) (sym counted)) in
     let now : record (record x { segments = x.segments + 1 }) { in_hand = c.none.result } ≡ record (seen_of c.self-2.inside) { in_hand = c.replace-in_hand.new.dest } =
-    ap₂ (λ (v : Service) (h : InHand). record v { in_hand = h }) (sym counted) (sym c.replace-in_hand.ensures.after) in
+    ap₂ (λ (v : Service) (h : SegmentInHand). record v { in_hand = h }) (sym counted) (sym c.replace-in_hand.ensures.after) in
     let told = subst (λ t. FollowsStep (λ asked s. ends asked s) x (record x { in_hand = c.none.result; segments = x.segments + 1 }) t) spelled made in
     (text, c.put_fault.ensures, subst (λ (v : Service). FollowsStep (λ asked s. ends asked s) x v text) now told)
 

@@ -3,13 +3,13 @@ use Rattle.std.proofs.lemmas.Result.{IfOk-weaker, IfErr-weaker}
 use Rattle.nn_device.proofs.Pages.{puts_nothing}
 use Rattle.nn_scenario.specs.Cut.{EditLine, with_line}
 use Rattle.nn_live.specs.contracts.service.Service.{the_view as seen_of}
-use Rattle.nn_live.specs.Serving.{Breaks, Service, InHand, HasRead, FollowsStep, keeps_edit, takes_segment}
+use Rattle.nn_live.specs.Serving.{Breaks, Service, SegmentInHand, HasRead, FollowsStep, keeps_edit, takes_segment}
 use Rattle.nn_live.proofs.Breaking.{none_told}
 use Rattle.nn_live.proofs.BrokenEdits.{ended_breaks}
 use Rattle.nn_live.proofs.Growing.{kept_grows}
 use Rattle.nn_live.proofs.Places.{on_err}
 use Rattle.nn_live.proofs.Editing.{kept_open, kept_ended}
-use Rattle.nn_live.proofs.InHand.{still_open}
+use Rattle.nn_live.proofs.SegmentInHand.{still_open}
 use Rattle.nn_live.proofs.service.Service.keep_edit.Goals as goal
 
 pub returns-in_err-push-clause-exhausted : goal.returns-in_err-push-clause-exhausted
@@ -36,7 +36,7 @@ returns-clause-ok g c = IfOk-weaker c.end_segment.result _ _ (λ _ step.
     let x = seen_of c.self.inside in
     let known : c.max-self-inside.result ≡ max x.known c.args.tx.txid = c.max-self-inside.ensures ∙ ap (λ k. max x.known k) c.get-txid.ensures.value in
     let start : record x { in_hand = c.replace-in_hand.new.dest; known = c.max-self-inside.result } ≡ record x { in_hand = c.none.result; known = max x.known c.args.tx.txid } =
-    ap₂ (λ (h : InHand) k. record x { in_hand = h; known = k }) c.replace-in_hand.ensures.after known in
+    ap₂ (λ (h : SegmentInHand) k. record x { in_hand = h; known = k }) c.replace-in_hand.ensures.after known in
     let made = kept_ended x line c.push.new.self c.in_ok-push.ensures.ok c.none.result c.end_segment.new.self step.0 c.none.ensures (sym c.if-not-ends.ensures) (λ read part has all.
     subst (λ (v : Service). FollowsStep (takes_segment part) v c.end_segment.new.self step.0) start
     (step.2 read part (subst (HasRead read part) (sym c.replace-in_hand.ensures.value) has) all)) in
@@ -53,7 +53,7 @@ returns-clause-prefix g c = IfErr-weaker c.end_segment.result _ _ (λ _ prefix.
     let x = seen_of c.self.inside in
     let known : c.max-self-inside.result ≡ max x.known c.args.tx.txid = c.max-self-inside.ensures ∙ ap (λ k. max x.known k) c.get-txid.ensures.value in
     let start : record x { in_hand = c.replace-in_hand.new.dest; known = c.max-self-inside.result } ≡ record x { in_hand = c.none.result; known = max x.known c.args.tx.txid } =
-    ap₂ (λ (h : InHand) k. record x { in_hand = h; known = k }) c.replace-in_hand.ensures.after known in
+    ap₂ (λ (h : SegmentInHand) k. record x { in_hand = h; known = k }) c.replace-in_hand.ensures.after known in
     let breaks = ended_breaks x line c.push.new.self c.in_ok-push.ensures.ok c.none.result prefix.0 c.none.ensures (sym c.if-not-ends.ensures) (λ read part has all.
     subst (λ (v : Service). Breaks (takes_segment part) v prefix.0) start
     (prefix.2 read part (subst (HasRead read part) (sym c.replace-in_hand.ensures.value) has) all)) in

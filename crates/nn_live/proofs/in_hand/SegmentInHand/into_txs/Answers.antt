@@ -2,8 +2,8 @@ use Rattle.std.proofs.Common.{None, Some, List, sym, subst, ◌∙◌}
 use Rattle.nn_scenario.specs.Checking.{AreSegments}
 use Rattle.nn_scenario.specs.Cut.{Part}
 use Rattle.nn_live.specs.Serving.{HasRead}
-use Rattle.nn_live.proofs.InHand.{is_bad, is_good}
-use Rattle.nn_live.proofs.in_hand.InHand.into_txs.Goals as goal
+use Rattle.nn_live.proofs.SegmentInHand.{is_bad, is_good}
+use Rattle.nn_live.proofs.in_hand.SegmentInHand.into_txs.Goals as goal
 
 pub returns-in-Some : goal.returns-in-Some
 returns-in-Some c = λ read part reads all.

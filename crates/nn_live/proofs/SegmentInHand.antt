@@ -15,7 +15,7 @@ use Rattle.nn_scenario.specs.Reading.{Reading, with_edit_line}
 use Rattle.nn_scenario.specs.declared.segments.PartFault.{PartFault}
 use Rattle.nn_scenario.specs.declared.steps.Step.TheVariants as step
 use Rattle.nn_scenario.proofs.CheckLemmas.{has_no_end}
-use Rattle.nn_live.specs.Serving.{InHand, HasRead, IsAllOf, HasPart, part_alone}
+use Rattle.nn_live.specs.Serving.{SegmentInHand, HasRead, IsAllOf, HasPart, part_alone}
 
 -- ---- One more edit.
 
@@ -28,7 +28,7 @@ module _ (part : Part) (line : EditLine) where
   longer : length part.bytes ≤ length (with_line part line).bytes
   longer = omega (arith, length-append (part.bytes ++ line.text) (line_feed ∷ []), length-append part.bytes line.text)
 
-  pub one_more_edit : (x : InHand) (c : SegmentCheck) (txs : List Tx) → HasPart part x → IsCheckOf (with_edit_line (part_alone part) line) c
+  pub one_more_edit : (x : SegmentInHand) (c : SegmentCheck) (txs : List Tx) → HasPart part x → IsCheckOf (with_edit_line (part_alone part) line) c
       → (length (with_line part line).bytes ≤ max_bytes → x.txs ≡ part.txs → txs ≡ part.txs ++ line.tx ∷ [])
       → HasRead (with_edit_line (part_alone part) line) (with_line part line) (record { check = c; txs = txs; edits = x.edits + 1; last = line.tx.txid })
   one_more_edit x c txs has check kept = record {
@@ -92,7 +92,7 @@ module _ (part : Part) where
 -- ---- No end mark came.
 
 -- edits that have not ended are no segment
-pub has_no_mark : (part : Part) (x : InHand) → HasPart part x → (g : Segment) → IsSegment g → g.txs ≡ part.txs → ⊥
+pub has_no_mark : (part : Part) (x : SegmentInHand) → HasPart part x → (g : Segment) → IsSegment g → g.txs ≡ part.txs → ⊥
 has_no_mark part x has g is same = at part.txs has.check.in_hand same
   where
     at : (txs : List Tx) → IsInHand txs x.check → g.txs ≡ txs → ⊥
@@ -103,7 +103,7 @@ has_no_mark part x has g is same = at part.txs has.check.in_hand same
         absurd (cc)
 
 -- no edits are no bytes
-pub no_edits : (part : Part) (x : InHand) → HasPart part x → x.edits ≡ 0 → part ≡ no_lines
+pub no_edits : (part : Part) (x : SegmentInHand) → HasPart part x → x.edits ≡ 0 → part ≡ no_lines
 no_edits part x has none =
     let read = has.check.read in
     let txs : part.txs ≡ [] = nil_from_length part.txs (sym has.edits ∙ none) in
@@ -111,7 +111,7 @@ no_edits part x has none =
     ap₂ (λ (b : List ℕ) (ts : List Tx). record { bytes = b; txs = ts }) (read.joined ∙ ap joined_lines lines) txs
 
 -- what was put behind edits in hand, where that is no end mark, is in hand with them
-pub still_open : (part : Part) (line : EditLine) (x : InHand) → is_end line.tx.edit ≡ false → HasRead (with_edit_line (part_alone part) line) (with_line part line) x → HasPart (with_line part line) x
+pub still_open : (part : Part) (line : EditLine) (x : SegmentInHand) → is_end line.tx.edit ≡ false → HasRead (with_edit_line (part_alone part) line) (with_line part line) x → HasPart (with_line part line) x
 still_open part line x isnt has =
     let is : with_edit_line (part_alone part) line ≡ going_on part line = ap (λ b. cond b (closed part line) (going_on part line)) isnt in
     let check = subst (λ (r : Reading). IsCheckOf r x.check) is has.check in
@@ -129,5 +129,5 @@ now_ended part line ends =
     ap (λ (r : Reading). r.parts ++ last_part r.in_hand) is
 
 -- edits in hand are all that was read
-pub all_alone : (part : Part) (x : InHand) → HasPart part x → 0 < x.edits → IsAllOf part (part_alone part)
+pub all_alone : (part : Part) (x : SegmentInHand) → HasPart part x → 0 < x.edits → IsAllOf part (part_alone part)
 all_alone part x has some = ap (λ b. cond b [] (part ∷ [])) (ne_eqb (length part.txs) 0 (λ none. absurd (omega (arith, some, has.edits, none))))

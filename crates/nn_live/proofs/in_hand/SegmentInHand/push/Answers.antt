@@ -3,9 +3,9 @@ use Rattle.nn_types.specs.declared.tx.Tx.{Tx}
 use Rattle.nn_scenario.specs.Cut.{EditLine, with_line}
 use Rattle.nn_scenario.specs.Reading.{with_edit_line}
 use Rattle.nn_live.specs.Serving.{HasRead, HasPart, part_alone}
-use Rattle.nn_live.specs.contracts.in_hand.InHand.{the_view as kept_of}
-use Rattle.nn_live.proofs.InHand.{one_more_edit, too_long}
-use Rattle.nn_live.proofs.in_hand.InHand.push.Goals as goal
+use Rattle.nn_live.specs.contracts.in_hand.SegmentInHand.{the_view as kept_of}
+use Rattle.nn_live.proofs.SegmentInHand.{one_more_edit, too_long}
+use Rattle.nn_live.proofs.in_hand.SegmentInHand.push.Goals as goal
 
 pub returns-then-is_too_long-clause-ok : goal.returns-then-is_too_long-clause-ok
 returns-then-is_too_long-clause-ok c = λ part keeps.

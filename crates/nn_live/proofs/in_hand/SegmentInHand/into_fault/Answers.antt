@@ -2,8 +2,8 @@ use Rattle.std.proofs.Common.{None, Some, List, sym, subst}
 use Rattle.nn_scenario.specs.Checking.{AreSegments}
 use Rattle.nn_scenario.specs.Cut.{Part}
 use Rattle.nn_live.specs.Serving.{HasPart, part_alone}
-use Rattle.nn_live.proofs.InHand.{all_alone, has_no_mark, is_bad, is_good}
-use Rattle.nn_live.proofs.in_hand.InHand.into_fault.Goals as goal
+use Rattle.nn_live.proofs.SegmentInHand.{all_alone, has_no_mark, is_bad, is_good}
+use Rattle.nn_live.proofs.in_hand.SegmentInHand.into_fault.Goals as goal
 
 pub unreachable-requires : goal.unreachable-requires
 unreachable-requires c =

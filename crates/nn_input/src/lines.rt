@@ -1,5 +1,7 @@
 //! The lines of a reader, one after another.
-ghost use Rattle.std.specs.Prelude.{◌≡◌, ◌≤◌, ◌<◌, ◌+◌, ◌^◌, [], ◌∷◌, List, ℕ, false, length, IfOk, IfErr, IfSome, None, true};
+ghost use Rattle.std.specs.Prelude.{◌≡◌, ◌==◌, ◌≤◌, ◌<◌, ◌+◌, ◌^◌, [], ◌∷◌, List, ℕ, false, length, IfOk, IfErr, IfSome, None, true};
+ghost use Rattle.std.specs.List.{position_or_len};
+ghost use Rattle.nn_bytes.specs.Lines.{line_feed};
 ghost use Rattle.std.specs.Io.KnownBytes.{IsAtEnd, Keeps};
 ghost use Rattle.nn_device.specs.Device.{FailedToReadOn};
 ghost use Rattle.nn_input.specs.Cut.{AsNoted, HasCome, HasEnded, IsCutTo, IsFresh, IsThere, NextEnded, ReadOn, Refilled, ahead, line_blank, line_text, still_to_cut};
@@ -79,6 +81,27 @@ impl Lines {
         let from = self.from;
         let left = &self.buffer[from..self.to];
         let end = line_end(left);
+        if end == left.len() || !self.torn.as_slice().is_empty() {
+            return self.cut_torn(end, most);
+        }
+        self.from = from + end + 1;
+        Ok(Some(Place::Read(from, from + end)))
+    }
+
+    // The same where no line feed is ahead, or bytes of the line are kept. `end` is the place of the first line feed, or the length.
+    // A line that came in one read takes the short way.
+    fn cut_torn(&mut self, end: usize, most: usize) -> Result<Option<Place>, AllocError>
+        requires end { end ≡ position_or_len (λ b. b == line_feed) (ahead self.old) }
+        requires within { end ≤ length (ahead self.old) }
+        ensures shorter { IfOk result (λ found. IfSome found (λ _. length (ahead self.new) < length (ahead self.old))) }
+        ensures few { length (ahead self.new) ≤ 2 ^ 16 }
+        ensures there { IfOk result (λ found. IfSome found (λ place. IsThere place self.new)) }
+        ensures line { IfOk result (λ found. IfSome found (λ place.
+            (bytes : List ℕ) (lines : List (List ℕ)) → HasCome most bytes lines self.old → HasEnded most bytes lines place self.new)) }
+        ensures none { IfOk result (λ found. found ≡ None → IsCutTo most self.old self.new × (ahead self.new ≡ [])) }
+    {
+        let from = self.from;
+        let left = &self.buffer[from..self.to];
         let text = &left[..end];
         if end == left.len() {
             if let Err(_) = self.torn.push(text, most) {
@@ -87,13 +110,10 @@ impl Lines {
             self.from = self.to;
             return Ok(None);
         }
-        self.from = from + end + 1;
-        if self.torn.as_slice().is_empty() {
-            return Ok(Some(Place::Read(from, from + end)));
-        }
         if let Err(_) = self.torn.push(text, most) {
             return Err(AllocError);
         }
+        self.from = from + end + 1;
         mem::swap(&mut self.torn, &mut self.last);
         self.torn.clear();
         Ok(Some(Place::Kept))

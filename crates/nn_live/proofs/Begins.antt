@@ -1,5 +1,6 @@
 -- Where a service begins, or why none does.
 use Rattle.std.proofs.Common.{◌≡◌, ◌⊎◌, ℕ, true, false, List, [], ◌∷◌, ◌++◌, length, Ok, Err, Result, refl, sym, subst, ap, ap₂, ◌∙◌, arith, inl, inr, append-nil}
+use Rattle.std.specs.Result.{is_ok}
 use Rattle.nn_bytes.specs.Pieces.{joined_lines}
 use Rattle.nn_device.specs.Device.{Reader}
 use Rattle.nn_image.specs.Front.{EndsWaiting, FailsWaiting, IsJudged, LoadedAtOnce, StopsWaiting, WaitsUntil}
@@ -78,7 +79,7 @@ module _ (o : LiveOptions) (from : o.from_image ≡ true) (a b : Reader) where
         behind = λ more. ap (λ f. so_far (asked_by o) f (joined_lines (j.before ++ j.line ∷ []) ++ more)) from ∙ judged_stage (asked_by o) n txid m.bytes (ahead l) j more;
         fresh = m.fresh;
       }
-      at (inr e) = let never : Ok (n, txid) ≡ Err Truncated = e.told in absurd (cc)
+      at (inr e) = absurd (let clash : true ≡ false = ap is_ok e.told in cc)
 
   -- a line is refused, or the image has no end
   pub image_output : (fault : ImageFault) (l : Lines) → LoadedAtOnce (Err fault) a b l → Tells run (halt.Refused fault)

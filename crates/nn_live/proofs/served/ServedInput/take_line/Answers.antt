@@ -19,7 +19,7 @@ returns-then-text-gt-MAX_LINE_LEN-clause-ok g c = IfOk-weaker c.long_line.result
   λ line is.
       let there = subst (λ (x : ServedInput). IsLineText line (line_text x.lines c.args.place) (line_blank x.lines c.args.place)) (sym c.self.view_is) is in
       subst (λ (x : ServedInput). FollowsStep (λ asked s. takes asked line s) x.service c.long_line.new.self step.0) c.self.view_is
-      (step.2 line (text_long line c.text.result.now c.is_blank.result (same_text c.text.ensures.text c.is_blank.ensures there) (omega (arith, c.if-text-gt-MAX_LINE_LEN.true)))),
+      (step.2 line (text_long line c.text-text.result.now c.is_blank.result (same_text c.text-text.ensures.text c.is_blank.ensures there) (omega (arith, c.if-text-gt-MAX_LINE_LEN.true)))),
 )) c.long_line.ensures.ok
 
 pub returns-then-text-gt-MAX_LINE_LEN-clause-prefix : goal.returns-then-text-gt-MAX_LINE_LEN-clause-prefix
@@ -30,7 +30,7 @@ pub line-requires : goal.line-requires
 line-requires g c =
     let line = c.requires.line.0 in
     let there = subst (λ (x : ServedInput). IsLineText line (line_text x.lines c.args.place) (line_blank x.lines c.args.place)) (sym c.self.view_is) c.requires.line.2 in
-    subst (λ t. is_unbroken t ≡ true) (sym c.text.ensures.text) (text_unbroken line _ _ there c.requires.line.1)
+    subst (λ t. is_unbroken t ≡ true) (sym c.text-text.ensures.text) (text_unbroken line _ _ there c.requires.line.1)
 
 pub returns-clause-ok : goal.returns-clause-ok
 returns-clause-ok g c = IfOk-weaker c.line.result _ _ (λ _ step. (
@@ -38,7 +38,7 @@ returns-clause-ok g c = IfOk-weaker c.line.result _ _ (λ _ step. (
   step.1,
   λ line is.
       let there = subst (λ (x : ServedInput). IsLineText line (line_text x.lines c.args.place) (line_blank x.lines c.args.place)) (sym c.self.view_is) is in
-      let whole = c.text.ensures.text ∙ text_whole line _ _ there (omega (arith, ap length c.text.ensures.text, c.if-text-gt-MAX_LINE_LEN.false)) in
+      let whole = c.text-text.ensures.text ∙ text_whole line _ _ there (omega (arith, ap length c.text-text.ensures.text, c.if-text-gt-MAX_LINE_LEN.false)) in
       subst (λ (x : ServedInput). FollowsStep (λ asked s. takes asked line s) x.service c.line.new.self step.0) c.self.view_is
       (subst (λ t. FollowsStep (λ asked s. takes asked t s) c.self.inside.service c.line.new.self step.0) whole step.2),
 )) c.line.ensures.ok
@@ -49,7 +49,7 @@ returns-clause-prefix g c = IfErr-weaker c.line.result _ _ (λ _ prefix. (
   prefix.1,
   λ line is.
       let there = subst (λ (x : ServedInput). IsLineText line (line_text x.lines c.args.place) (line_blank x.lines c.args.place)) (sym c.self.view_is) is in
-      let whole = c.text.ensures.text ∙ text_whole line _ _ there (omega (arith, ap length c.text.ensures.text, c.if-text-gt-MAX_LINE_LEN.false)) in
+      let whole = c.text-text.ensures.text ∙ text_whole line _ _ there (omega (arith, ap length c.text-text.ensures.text, c.if-text-gt-MAX_LINE_LEN.false)) in
       subst (λ (x : ServedInput). Breaks (λ asked s. takes asked line s) x.service prefix.0) c.self.view_is
       (subst (λ t. Breaks (λ asked s. takes asked t s) c.self.inside.service prefix.0) whole prefix.2),
 )) c.line.ensures.prefix

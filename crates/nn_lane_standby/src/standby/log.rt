@@ -63,7 +63,7 @@ impl Standby {
         ensures stops { self.new ≡ stopping self.old result }
     {
         let last = self.shadow.last_txid();
-        let Some(txid) = Txid::new(last + 1) else {
+        let Some(txid) = Txid::new(last.get() + 1) else {
             unreachable!();
         };
         let stop = Stop {
@@ -83,7 +83,7 @@ impl Standby {
         ensures failed { OnLogFault result (S.failures source.old < S.failures source.new) }
         ensures counted { S.failures source.old ≤ S.failures source.new }
     {
-        let last = self.shadow.last_txid();
+        let last = self.shadow.last_txid().get();
         match self.cursor.take_up(source, last) {
             Ok(TakenUp::New) => Ok(TakenUp::New),
             Ok(TakenUp::Old) => Ok(TakenUp::Old),

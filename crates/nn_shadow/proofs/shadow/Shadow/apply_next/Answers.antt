@@ -47,7 +47,7 @@ settle-requires-clause-placed c =
 
 -- the standby with the edit made
 abbrev after : goal.After-drop-written-2 → Intake → Shadow
-after c i = record (with_intake (the_view c.self.inside) i) { namespace = c.change.new.namespace; last = c.get-self-inside.result }
+after c i = record (with_intake (the_view c.self.inside) i) { namespace = c.change.new.namespace; last = c.args.tx.now.txid }
 
 made : (c : goal.After-drop-written-2) → Leaves (the_view c.self.inside) (applied_to (standby_of (the_view c.self.inside)) c.args.tx.now) (after c c.give_back_touched.new.self)
 made c =

@@ -53,7 +53,7 @@ fn show(rt: &HostRuntime, shadow: &Shadow) -> Result<()> {
     write_listing(
         rt.alloc(),
         shadow.namespace(),
-        shadow.last_txid(),
+        shadow.last_txid().get(),
         &mut listing,
     )?;
     let text = String::from_utf8(listing.into_inner())?;
@@ -141,7 +141,7 @@ fn show_tables(rt: &impl Print, alloc: Global, shadow: &Shadow) -> Result<()> {
 // The listing and the tables. Both are made ready first, which takes all the memory that they want.
 fn put_tables(alloc: Global, shadow: &Shadow, text: &mut Writer<Vec<u8>>) -> Result<()> {
     let extent = shadow.namespace().extent()?;
-    let listing = ReadyListing::of(shadow.namespace(), extent, shadow.last_txid())?;
+    let listing = ReadyListing::of(shadow.namespace(), extent, shadow.last_txid().get())?;
     let tables = ReadyTables::of(alloc, shadow.replicas(), shadow.safe_mode())?;
     let mut page = Page::new(alloc);
     listing.put(&mut page, text);

@@ -141,7 +141,7 @@ impl Operator for Failover {
 
     fn ask(&mut self, standby: &Standby, _running: usize) -> Request {
         let shadow = standby.shadow();
-        if shadow.last_txid() >= TAKEOVER && !shadow.safe_mode().on {
+        if shadow.last_txid().get() >= TAKEOVER && !shadow.safe_mode().on {
             self.told.fenced.store(true, Ordering::SeqCst);
             return Request::Promote;
         }
@@ -160,7 +160,7 @@ impl CheckpointOperator<Vec<u8>> for Failover {
     ghost hears = { λ o w e p. ⊤ };
 
     fn due(&mut self, standby: &Standby) -> Option<Vec<u8>> {
-        let last = standby.shadow().last_txid();
+        let last = standby.shadow().last_txid().get();
         if last <= self.saved || last >= TAKEOVER || standby.in_hand() > 0 {
             return None;
         }

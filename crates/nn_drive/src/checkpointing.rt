@@ -81,9 +81,7 @@ impl<W: Write> InHand<W> {
         ensures { BeganCheckpoint W.contents standby.now writer result }
     {
         let shadow = standby.shadow();
-        let Some(txid) = Txid::new(shadow.last_txid()) else {
-            unreachable!()
-        };
+        let txid = shadow.last_txid();
         let mut image = Writer::new(writer);
         match Saving::begin(alloc, shadow.namespace(), txid, &mut image) {
             Ok(saving) => ControlFlow::Continue(InHand {

@@ -1,21 +1,16 @@
 -- What the calls of the standby of one thread say of its parts.
-use Rattle.std.proofs.Common.{◌≡◌, ℕ, ◌+◌, true, false, List, [], ◌∷◌, length, Option, Some, None, refl, sym, ap, ◌∙◌, subst, inl, inr, ◌≤◌}
-use Rattle.std.specs.Prelude.{if◌then◌else◌, ◌==◌, option_map}
+use Rattle.std.proofs.Common.{◌≡◌, ℕ, ◌+◌, ◌≤◌, true, false, List, [], ◌∷◌, length, None, refl, ap, ◌∙◌}
+use Rattle.std.specs.Prelude.{if◌then◌else◌, ◌==◌}
 use Rattle.std.proofs.lemmas.Bool.{eq-eqb, le-leb}
 use Rattle.nn_types.specs.declared.report.Message.{Message}
 use Rattle.nn_types.specs.declared.tx.Tx.{Tx}
-use Rattle.nn_types.specs.declared.edit_fault.EditFault.{EditFault}
-use Rattle.nn_model.specs.Apply.{first_fault, refusal, effect}
+use Rattle.nn_model.specs.Apply.{effect}
 use Rattle.nn_model.specs.Stands.{StandbyState}
 use Rattle.nn_types.specs.declared.event.Cause.TheVariants.{Due}
 use Rattle.nn_postponed.specs.Queues.{queued}
 use Rattle.nn_shadow.specs.Calls.{processing, waits, taken_in, all_taken_in, items_added}
 use Rattle.nn_shadow.specs.Contents.{Shadow, standby_of, last_number_in, KeepsSettings}
-use Rattle.nn_shadow.specs.Refusals.{Phase, apply_refusal, hand_refusal, IsAnswered}
-use Rattle.nn_shadow.specs.declared.fault.ApplyFault.{ApplyFault}
-use Rattle.nn_shadow.specs.declared.fault.ApplyFault.TheVariants as apply
-use Rattle.nn_shadow.specs.declared.fault.HandCause.{HandCause}
-use Rattle.nn_shadow.specs.declared.fault.HandCause.TheVariants as hand
+use Rattle.nn_shadow.specs.Refusals.{Phase, turn_refusal, hand_refusal}
 use Rattle.nn_lane_standby.specs.Shadows.{ShowsSame, IsApplied, IsHanded}
 
 pub same_last : (x y : Shadow) → ShowsSame x y → y.last ≡ x.last
@@ -81,31 +76,6 @@ pub is_welcome : (x : Shadow) (m : Message) → x.phase ≡ serving → 1 ≤ m.
     → hand_refusal (length x.numbers) x.phase (standby_of x) m ≡ None
 is_welcome x m phase from to next = rw (phase, le-leb 1 m.dn from, le-leb m.dn (length x.numbers) to, eq-eqb m.number (last_number_in x.numbers m.dn + 1) next) refl
 
--- so only memory can be wanting
-pub only_memory : (x : Shadow) (m : Message) (cause : HandCause) → hand_refusal (length x.numbers) x.phase (standby_of x) m ≡ None
-    → IsAnswered hand.OutOfMemory (hand_refusal (length x.numbers) x.phase (standby_of x) m) cause → cause ≡ hand.OutOfMemory
-only_memory x m cause none (inl e) = absurd (let q : None ≡ Some cause = sym none ∙ e in cc)
-only_memory x m cause none (inr e) = e.1
-
--- of the next transaction only the edit, or memory
-abbrev pub WhyNot : Shadow → Tx → ApplyFault → Type 0
-WhyNot x tx (apply.Stopped stop) = ⊥
-WhyNot x tx apply.AlreadyActive = ⊥
-WhyNot x tx (apply.Disorder expected) = ⊥
-WhyNot x tx (apply.Refused fault) = refusal x.namespace tx.edit ≡ Some fault
-WhyNot x tx apply.OutOfMemory = Unit {0}
-
-abbrev causes : Option EditFault → List (Option ApplyFault)
-causes o = None ∷ None ∷ None ∷ option_map (λ fault. apply.Refused fault) o ∷ []
-
-causes_are : (x : Shadow) (tx : Tx) → x.phase ≡ serving → tx.txid ≡ x.last + 1 → apply_refusal x.phase (standby_of x) tx ≡ first_fault (causes (refusal x.namespace tx.edit))
-causes_are x tx phase next = rw (phase, eq-eqb tx.txid (x.last + 1) next) refl
-
-answered : (x : Shadow) (tx : Tx) (fault : ApplyFault) (o : Option EditFault) → refusal x.namespace tx.edit ≡ o → IsAnswered apply.OutOfMemory (first_fault (causes o)) fault → WhyNot x tx fault
-answered x tx fault None e (inl h) = absurd (cc)
-answered x tx fault None e (inr h) = subst (WhyNot x tx) (sym h.1) tt
-answered x tx fault (Some f) e (inl h) = subst (WhyNot x tx) (let q : apply.Refused f ≡ fault = cc in q) e
-answered x tx fault (Some f) e (inr h) = absurd (cc)
-
-pub why_not : (x : Shadow) (tx : Tx) (fault : ApplyFault) → x.phase ≡ serving → tx.txid ≡ x.last + 1 → IsAnswered apply.OutOfMemory (apply_refusal x.phase (standby_of x) tx) fault → WhyNot x tx fault
-why_not x tx fault phase next h = answered x tx fault (refusal x.namespace tx.edit) refl (subst (λ o. IsAnswered apply.OutOfMemory o fault) (causes_are x tx phase next) h)
+-- and the next transaction
+pub is_in_turn : (x : Shadow) (tx : Tx) → x.phase ≡ serving → tx.txid ≡ x.last + 1 → turn_refusal x.phase (standby_of x) tx ≡ None
+is_in_turn x tx phase next = rw (phase, eq-eqb tx.txid (x.last + 1) next) refl

@@ -97,11 +97,8 @@ impl Standby {
         ensures settings { IfOk result (λ x. (x.shadow.table.min ≡ settings.min) × (x.shadow.permille ≡ settings.permille)) }
         ensures err { IfErr result (λ fault. fault.ends ≡ ends) }
     {
-        // Transactions are counted from 1.
-        let Some(txid) = Txid::new(0) else {
-            unreachable!()
-        };
-        let standby = Standby::from_namespace(alloc, ends, settings, Namespace::new(alloc), txid)?;
+        let namespace = Namespace::new(alloc);
+        let standby = Standby::from_namespace(alloc, ends, settings, namespace, Txid::ZERO)?;
         Ok(standby)
     }
 

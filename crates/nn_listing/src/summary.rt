@@ -23,7 +23,7 @@ pub fn put_summary<W: Write>(page: &mut Page, writer: &mut Writer<W>, shadow: &S
         → PutsPiece (summary_text (summary_of shadow.now.permille shadow.now.table.min lanes (standby_of shadow.now))) page.old writer.old page.new writer.new }
 {
     shadow.recall_invariant();
-    put_count(page, writer, "txid", shadow.last_txid());
+    put_count(page, writer, "txid", shadow.last_txid().get());
     put_count(page, writer, "held", shadow.held_count() as u64);
     put_senders(page, writer, shadow);
     let namespace = shadow.namespace();

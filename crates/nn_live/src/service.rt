@@ -17,8 +17,8 @@ use nn_device::{Page, Writer};
 use nn_listing::put_history;
 use nn_shadow::{FromFault, Shadow};
 use nn_tree::Namespace;
-use nn_types::Settings;
 use nn_types::limits::MAX_DATANODES;
+use nn_types::{Settings, Txid};
 use std::alloc::Global;
 use std::io::Write;
 use std::marker::Model;
@@ -75,12 +75,11 @@ impl Service {
     pub fn begin(
         alloc: Global,
         namespace: Namespace,
-        txid: u64,
+        txid: Txid,
         settings: Settings,
         history: bool,
         version: &'static str,
     ) -> Result<Service, FromFault>
-        requires { txid < 2 ^ 63 }
         ensures ok { IfOk result (λ service. IsAtService (record { permille = settings.permille; min = settings.min; history = history; version = version.now }) service (new_service namespace txid)) }
         ensures back { IfErr result (λ fault. fault.namespace ≡ namespace) }
     {
@@ -91,7 +90,7 @@ impl Service {
             history,
             version,
             min: settings.min(),
-            known: txid,
+            known: txid.get(),
             epoch: 0,
             promoted: 0,
             full: FullReports::none(alloc),

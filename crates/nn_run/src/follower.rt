@@ -92,7 +92,7 @@ impl Follower {
         if self.stop.is_some() {
             return Ok(());
         }
-        let last = self.shadow.last_txid();
+        let last = self.shadow.last_txid().get();
         let txid = tx.txid.get();
         if is_gap(begins, last, txid) {
             self.stop = Some(LogFault::Disorder { txid: last + 1 });

@@ -82,13 +82,7 @@ fn following_from(alloc: Global, options: &Options, begin: Begin) -> Result<Foll
 {
     let Begin { namespace, txid } = begin;
     // One lane for each DataNode that there can be.
-    let Ok(shadow) = Shadow::from(
-        alloc,
-        namespace,
-        txid.get(),
-        MAX_DATANODES,
-        options.settings,
-    ) else {
+    let Ok(shadow) = Shadow::from(alloc, namespace, txid, MAX_DATANODES, options.settings) else {
         return Err(AllocError);
     };
     Ok(Following::of(shadow, options.history))

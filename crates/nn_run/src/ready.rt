@@ -17,7 +17,7 @@ use nn_image::ReadyImage;
 use nn_listing::{ReadyListing, ReadyTables, ReadyUnsafe, put_history, put_summary};
 use nn_shadow::Shadow;
 use nn_tree::Extent;
-use nn_types::{Event, Txid};
+use nn_types::Event;
 use std::alloc::{AllocError, Global};
 use std::io::Write;
 use std::marker::Model;
@@ -108,7 +108,7 @@ impl<'a> ReadyParts<'a> {
         let image = asked_image(alloc, options.image, shadow, extent)?;
         Ok(ReadyParts {
             events: asked_history(options.history, shadow),
-            listing: ReadyListing::of(namespace, extent, shadow.last_txid())?,
+            listing: ReadyListing::of(namespace, extent, shadow.last_txid().get())?,
             tables: ReadyTables::of(alloc, shadow.replicas(), shadow.safe_mode())?,
             summary: asked_summary(options.summary, shadow),
             unsafe_blocks: asked_unsafe(options.unsafe_blocks, shadow, extent)?,
@@ -210,16 +210,6 @@ fn asked_image<'a>(
     if !asked {
         return Ok(None);
     }
-    let image = ReadyImage::of(alloc, shadow.namespace(), extent, last_of(shadow))?;
+    let image = ReadyImage::of(alloc, shadow.namespace(), extent, shadow.last_txid())?;
     Ok(Some(image))
-}
-
-// The last txid of a standby, with which its image is saved.
-fn last_of(shadow: &Shadow) -> Txid
-    ensures { result ≡ shadow.now.last }
-{
-    match Txid::new(shadow.last_txid()) {
-        Some(txid) => txid,
-        None => unreachable!(),
-    }
 }

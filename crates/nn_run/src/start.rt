@@ -47,11 +47,8 @@ fn without_image(alloc: Global, from_image: bool) -> Result<Begin, ImageFault>
 pub(crate) fn at_root(alloc: Global) -> Begin
     ensures { start_of result ≡ from_root }
 {
-    let Some(txid) = Txid::new(0) else {
-        unreachable!()
-    };
     Begin {
         namespace: Namespace::new(alloc),
-        txid,
+        txid: Txid::ZERO,
     }
 }

@@ -272,8 +272,8 @@ fn revoked(finish: &Message, block: BlockId) -> Message
 {
     Message {
         block,
-        stamp: GenerationStamp::new(0).unwrap(),
-        len: Length::new(0).unwrap(),
+        stamp: GenerationStamp::ZERO,
+        len: Length::ZERO,
         kind: Kind::Deleted,
         ..*finish
     }

@@ -42,12 +42,10 @@ impl Intake {
         ensures left { self.new.held ≡ still_waiting (is_due_in namespace.now) [] self.old.held }
         ensures table { self.new.table ≡ messages_taken self.old.table (freed (is_due_in namespace.now) [] self.old.held) }
     {
-        let Some(mut from) = BlockId::new(0) else {
-            return;
-        };
         if self.held.is_empty() {
             return;
         }
+        let mut from = BlockId::ZERO;
         while let Some(block) = next_touched(written, touched, &self.held, from) {
             let Some(least) = self.held.next_held(block) else {
                 return;

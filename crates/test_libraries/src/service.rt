@@ -5,6 +5,7 @@ use crate::values::settings;
 use nn_device::{Page, Writer};
 use nn_live::{Live, Service, ServiceFault};
 use nn_tree::Namespace;
+use nn_types::Txid;
 use std::alloc::Global;
 use std::test::Fail;
 
@@ -134,7 +135,7 @@ fn taken(answer: Result<(), ServiceFault>) -> Result<(), Fail> {
 
 fn begun(alloc: Global) -> Result<Live, Fail> {
     let namespace = Namespace::new(alloc);
-    let Ok(service) = Service::begin(alloc, namespace, 0, settings(999, 1)?, true, "0.1") else {
+    let Ok(service) = Service::begin(alloc, namespace, Txid::ZERO, settings(999, 1)?, true, "0.1") else {
         return Err(Fail::new("memory is refused"));
     };
     Ok(Live::of(alloc, service))

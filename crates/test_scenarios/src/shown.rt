@@ -50,7 +50,7 @@ fn put_tables(
     shadow: &Shadow,
 ) -> Result<(), AllocError> {
     let extent = shadow.namespace().extent()?;
-    let listing = ReadyListing::of(shadow.namespace(), extent, shadow.last_txid())?;
+    let listing = ReadyListing::of(shadow.namespace(), extent, shadow.last_txid().get())?;
     let tables = ReadyTables::of(alloc, shadow.replicas(), shadow.safe_mode())?;
     listing.put(page, writer);
     tables.put(page, writer);

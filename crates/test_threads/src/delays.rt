@@ -101,7 +101,7 @@ impl<R: Clock> Operator for SlowOperator<'_, R> {
 
     fn ask(&mut self, standby: &Standby, running: usize) -> Request {
         delay(self.rt, &mut self.dice);
-        let last = standby.shadow().last_txid();
+        let last = standby.shadow().last_txid().get();
         self.has_fallen = self.has_fallen || last < self.last;
         self.last = last;
         if running == 0 && last >= SEGMENTS * 2 {

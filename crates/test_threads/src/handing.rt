@@ -185,7 +185,7 @@ impl<R: Clock> Operator for Showing<'_, R> {
 
     fn ask(&mut self, standby: &Standby, _running: usize) -> Request {
         let processed = if self.dn == 0 {
-            standby.shadow().last_txid()
+            standby.shadow().last_txid().get()
         } else {
             standby.shadow().last_number(self.dn)
         };

@@ -32,7 +32,7 @@ impl Operator for Holding {
 
     fn ask(&mut self, standby: &Standby, running: usize) -> Request {
         let request = self.until.ask(standby, running);
-        let last = standby.shadow().last_txid();
+        let last = standby.shadow().last_txid().get();
         if self.ended || last == 0 {
             return request;
         }

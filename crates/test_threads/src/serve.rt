@@ -108,7 +108,7 @@ impl Operator for Until {
     ghost asks = { λ o x n w p. ⊤ };
 
     fn ask(&mut self, standby: &Standby, _running: usize) -> Request {
-        let last = standby.shadow().last_txid();
+        let last = standby.shadow().last_txid().get();
         let sent = least_sent(standby, self.nodes);
         let vain = self.shared.vain.load(Ordering::SeqCst);
         if vain > 0 || (last >= self.txid && sent >= self.messages) {
@@ -847,7 +847,7 @@ fn tables_of<O: Operator, R: Threads + Wait + Copy + Send + Drop + 'static>(
 // What a standby shows, as text.
 fn shown(alloc: Global, shadow: &Shadow) -> Option<String> {
     let extent = shadow.namespace().extent().ok()?;
-    let listing = ReadyListing::of(shadow.namespace(), extent, shadow.last_txid()).ok()?;
+    let listing = ReadyListing::of(shadow.namespace(), extent, shadow.last_txid().get()).ok()?;
     let tables = ReadyTables::of(alloc, shadow.replicas(), shadow.safe_mode()).ok()?;
     let mut page = Page::new(alloc);
     let mut writer = Writer::new(Vec::new(alloc));

@@ -23,7 +23,7 @@ fn stepped(alloc: Global) -> Option<(u64, u64)> {
     };
     let (_workers, mut standby) = laned(alloc, nodes, 1, None, &[])?;
     let applied = steps_to_the_end(&mut standby, &mut log);
-    Some((applied, standby.shadow().last_txid()))
+    Some((applied, standby.shadow().last_txid().get()))
 }
 
 fn a_log(alloc: Global) -> Option<FailsOnce> {

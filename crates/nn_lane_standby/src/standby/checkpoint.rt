@@ -35,11 +35,12 @@ impl Standby {
         ensures prefix { IfErr result (WrotePrefix writer.old writer.new (image_text self.now.shadow.namespace self.now.shadow.last)) }
         ensures again { IsReadBack self.now.shadow.namespace self.now.shadow.last }
     {
-        // Each txid that is applied is below 2^63.
-        let Some(last) = Txid::new(self.shadow.last_txid()) else {
-            unreachable!()
-        };
-        save(alloc, self.shadow.namespace(), last, writer)
+        save(
+            alloc,
+            self.shadow.namespace(),
+            self.shadow.last_txid(),
+            writer,
+        )
     }
 
     /// A standby over these lanes, of DataNodes 1, 2 and so on, that goes on from a namespace after this transaction: it passes
@@ -65,7 +66,7 @@ impl Standby {
         let Ok(undelivered) = all_delivered(alloc, lanes) else {
             return Err(NewFault { ends });
         };
-        let Ok(shadow) = Shadow::from(alloc, namespace, txid.get(), lanes as u16, settings) else {
+        let Ok(shadow) = Shadow::from(alloc, namespace, txid, lanes as u16, settings) else {
             return Err(NewFault { ends });
         };
         Ok(Standby {

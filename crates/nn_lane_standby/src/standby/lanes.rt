@@ -11,7 +11,7 @@ ghost use Rattle.nn_lane_standby.specs.Parts.{IsLive, Fetches, FindsNone, HandsU
 use super::{Standby, Stepped};
 use crate::fault::StepFault;
 use nn_lane::{LaneEnd, Taken};
-use nn_shadow::{HandCause, Handed};
+use nn_shadow::Handed;
 use nn_types::Message;
 
 impl Standby {
@@ -54,19 +54,11 @@ impl Standby {
         ensures answer { IfOk result (λ handed. handed ≡ handed_as (standby_of self.old.shadow) m) }
         ensures err { IfErr result (λ fault. NotHanded self.old self.new fault) }
     {
-        match self.shadow.hand(m) {
-            Ok(handed) => {
-                self.undelivered[i] = None;
-                Ok(handed)
-            }
-            Err(refused) => match refused.cause {
-                HandCause::OutOfMemory => Err(StepFault::OutOfMemory),
-                HandCause::Stopped(_)
-                | HandCause::AlreadyActive
-                | HandCause::BadLane
-                | HandCause::WrongNumber => unreachable!(),
-            },
-        }
+        let Ok(handed) = self.shadow.hand_next(m) else {
+            return Err(StepFault::OutOfMemory);
+        };
+        self.undelivered[i] = None;
+        Ok(handed)
     }
 
     // Takes the next message of the lane at this place.

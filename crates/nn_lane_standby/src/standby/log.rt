@@ -10,8 +10,9 @@ ghost use Rattle.nn_lane_standby.specs.Steps.{OnceAsked, Edits, OnLogFault, HasS
 use super::{Standby, Stepped};
 use crate::fault::StepFault;
 use nn_segment::{SegmentSource, TakenUp};
-use nn_shadow::{ApplyFault, Stop};
+use nn_shadow::Stop;
 use nn_types::{Txid, fault};
+use std::alloc::AllocError;
 
 impl Standby {
     // Applies the next transaction in hand.
@@ -25,25 +26,21 @@ impl Standby {
             unreachable!();
         };
         let txid = tx.txid;
-        match self.shadow.apply(tx) {
-            Ok(()) => {
+        match self.shadow.apply_next(tx) {
+            Ok(Ok(())) => {
                 self.cursor.advance();
                 Ok(txid)
             }
-            Err(fault) => match fault {
-                ApplyFault::OutOfMemory => Err(StepFault::OutOfMemory),
-                ApplyFault::Refused(refused) => {
-                    let stop = Stop {
-                        txid,
-                        number: refused.number(),
-                    };
-                    let mark = stop;
-                    self.stop = Some(mark);
-                    Err(StepFault::Stopped(stop))
-                }
-                ApplyFault::Stopped(_) | ApplyFault::AlreadyActive | ApplyFault::Disorder { .. } =>
-                    unreachable!(),
-            },
+            Ok(Err(refused)) => {
+                let stop = Stop {
+                    txid,
+                    number: refused.number(),
+                };
+                let mark = stop;
+                self.stop = Some(mark);
+                Err(StepFault::Stopped(stop))
+            }
+            Err(AllocError) => Err(StepFault::OutOfMemory),
         }
     }
 
@@ -63,7 +60,7 @@ impl Standby {
         ensures stops { self.new ≡ stopping self.old result }
     {
         let last = self.shadow.last_txid();
-        let Some(txid) = Txid::new(last + 1) else {
+        let Some(txid) = Txid::new(last.get() + 1) else {
             unreachable!();
         };
         let stop = Stop {
@@ -83,7 +80,7 @@ impl Standby {
         ensures failed { OnLogFault result (S.failures source.old < S.failures source.new) }
         ensures counted { S.failures source.old ≤ S.failures source.new }
     {
-        let last = self.shadow.last_txid();
+        let last = self.shadow.last_txid().get();
         match self.cursor.take_up(source, last) {
             Ok(TakenUp::New) => Ok(TakenUp::New),
             Ok(TakenUp::Old) => Ok(TakenUp::Old),

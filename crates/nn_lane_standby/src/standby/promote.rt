@@ -68,7 +68,7 @@ impl Standby {
             Ok(flushed) => {
                 self.active = true;
                 Ok(Active {
-                    last: self.shadow.last_txid(),
+                    last: self.shadow.last_txid().get(),
                     flushed,
                 })
             }

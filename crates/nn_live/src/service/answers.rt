@@ -25,7 +25,7 @@ use nn_postponed::Held;
 use nn_replicas::SafeMode;
 use nn_tree::Rows;
 use nn_types::limits::MAX_DATANODES;
-use nn_types::{BlockId, Path, Txid};
+use nn_types::{BlockId, Path};
 use std::alloc::{AllocError, Global};
 use std::io::Write;
 
@@ -116,7 +116,7 @@ impl Service {
         ensures { IfOk result (λ listing. listing ≡ listing_text self.now.shadow.last self.now.shadow.namespace) }
     {
         let namespace = self.shadow.namespace();
-        ReadyListing::of(namespace, namespace.extent()?, self.shadow.last_txid())
+        ReadyListing::of(namespace, namespace.extent()?, self.shadow.last_txid().get())
     }
 
     fn table_lines(&self) -> Result<ReadyTables<'_>, AllocError>
@@ -271,10 +271,7 @@ impl Service {
     {
         let namespace = self.shadow.namespace();
         let extent = namespace.extent()?;
-        let Some(txid) = Txid::new(self.shadow.last_txid()) else {
-            unreachable!();
-        };
-        ReadyImage::of(self.alloc, namespace, extent, txid)
+        ReadyImage::of(self.alloc, namespace, extent, self.shadow.last_txid())
     }
 }
 

@@ -163,7 +163,7 @@ impl Service {
             unreachable!();
         };
         let first = first.txid.get();
-        let next = self.shadow.last_txid() + 1;
+        let next = self.shadow.last_txid().get() + 1;
         if next < first {
             put_gap(page, writer, next, self.segments);
             return Ok(());

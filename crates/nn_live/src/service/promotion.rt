@@ -82,7 +82,7 @@ impl Service {
             return Ok(());
         }
         if !self.ends_at(txid, losing) {
-            let next = self.shadow.last_txid() + 1;
+            let next = self.shadow.last_txid().get() + 1;
             put_fault(page, writer, fault::DISORDER, " txid ", next);
             return Ok(());
         }
@@ -106,6 +106,6 @@ impl Service {
     fn ends_at(&self, txid: u64, losing: bool) -> bool
         ensures { result ≡ log_ends self.now.shadow.last self.now.known txid losing }
     {
-        self.shadow.last_txid() == txid && (losing || txid >= self.known)
+        self.shadow.last_txid().get() == txid && (losing || txid >= self.known)
     }
 }

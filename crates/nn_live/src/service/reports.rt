@@ -124,18 +124,11 @@ impl Service {
 fn mark_of(dn: u16, kind: Kind) -> Report
     ensures { result ≡ mark_of dn kind }
 {
-    let (Some(block), Some(stamp), Some(len)) = (
-        BlockId::new(0),
-        GenerationStamp::new(0),
-        Length::new(0),
-    ) else {
-        unreachable!();
-    };
     Report {
         dn,
-        block,
-        stamp,
-        len,
+        block: BlockId::ZERO,
+        stamp: GenerationStamp::ZERO,
+        len: Length::ZERO,
         kind,
     }
 }

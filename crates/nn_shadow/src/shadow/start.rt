@@ -1,5 +1,5 @@
 //! How a standby starts.
-ghost use Rattle.std.specs.Prelude.{◌≡◌, ◌≤◌, ◌<◌, ◌^◌, [], length, map, replicate, false, None, IfOk, IfErr};
+ghost use Rattle.std.specs.Prelude.{◌≡◌, ◌≤◌, [], length, map, replicate, false, None, IfOk, IfErr};
 ghost use Rattle.nn_model.specs.Items.{nothing_known};
 ghost use Rattle.nn_model.specs.Lanes.{no_messages};
 ghost use Rattle.nn_model.specs.Stands.{fresh};
@@ -16,7 +16,7 @@ use crate::intake::Intake;
 use crate::starting::blank_table;
 use nn_postponed::Postponed;
 use nn_tree::Namespace;
-use nn_types::Settings;
+use nn_types::{Settings, Txid};
 use std::alloc::{AllocError, Global};
 
 impl Shadow {
@@ -26,12 +26,11 @@ impl Shadow {
     pub fn from(
         alloc: Global,
         namespace: Namespace,
-        txid: u64,
+        txid: Txid,
         datanodes: u16,
         settings: Settings,
     ) -> Result<Shadow, FromFault>
-        requires datanodes { (1 ≤ datanodes) × (datanodes ≤ max_datanodes) }
-        requires txid { txid < 2 ^ 63 }
+        requires { (1 ≤ datanodes) × (datanodes ≤ max_datanodes) }
         ensures fresh { IfOk result (λ s. standby_of s ≡ fresh namespace txid) }
         ensures stands { IfOk result (λ s. StandsBy namespace txid [] no_messages (standby_of s)) }
         ensures rows { IfOk result (λ s. Shows namespace s.table) }

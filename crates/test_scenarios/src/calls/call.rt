@@ -102,7 +102,7 @@ impl<'a> Call<'a> {
             number: self.number(at + 1),
             block: self.id(at + 2),
             stamp: self.stamp(at + 3),
-            len: Length::new(0).unwrap(),
+            len: Length::ZERO,
             kind: Kind::Received,
         }
     }

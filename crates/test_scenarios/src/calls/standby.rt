@@ -226,7 +226,7 @@ fn write_image(standby: &Standby, text: &mut Vec<u8>, call: &mut Call<'_>) {
 // Calls that change nothing.
 fn read(standby: &Standby, call: &mut Call<'_>) -> bool {
     if call.is("last_txid") {
-        call.show(&standby.shadow().last_txid());
+        call.show(&standby.shadow().last_txid().get());
     } else if call.is("in_hand") {
         call.show(&standby.in_hand());
     } else if call.is("is_active") {

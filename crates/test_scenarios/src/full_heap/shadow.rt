@@ -128,7 +128,7 @@ impl Making for Start<'_> {
         match Shadow::from(
             self.alloc,
             namespace,
-            self.txid.get(),
+            self.txid,
             DATANODES,
             self.settings,
         ) {

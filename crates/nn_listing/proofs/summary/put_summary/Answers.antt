@@ -1,4 +1,4 @@
-use Rattle.std.proofs.Common.{◌≡◌, subst}
+use Rattle.std.proofs.Common.{◌≡◌, subst, ◌∙◌}
 use Rattle.nn_device.specs.Page.{PutsPiece}
 use Rattle.nn_device.proofs.Pages.{puts_both}
 use Rattle.nn_replicas.specs.SafeMode.{counts_of}
@@ -12,7 +12,7 @@ pub returns-clause-seen : goal.returns-clause-seen
 returns-clause-seen g c =
     let told : Summary =
     record {
-      txid = c.last_txid.result;
+      txid = c.get.result;
       held = c.held_count.result;
       senders = sender_seen c.args.shadow.now;
       counts = counts_told c.files-files.result c.directories-directories.result c.figures.result;
@@ -22,7 +22,7 @@ returns-clause-seen g c =
     let directories = rw c.namespace-namespace.ensures at c.directories-directories.ensures in
     let same : told ≡ summary_seen c.args.shadow.now =
     λ i. record {
-      txid = c.last_txid.ensures.last i;
+      txid = (c.get.ensures.value ∙ c.last_txid.ensures.last) i;
       held = c.held_count.ensures i;
       senders = sender_seen c.args.shadow.now;
       counts = counts_told (files i) (directories i) (c.figures.ensures i);

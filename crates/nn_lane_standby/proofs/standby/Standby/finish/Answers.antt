@@ -28,7 +28,7 @@ returns-in-Ok c =
     let n = subst (λ (z : Standby). z.stop ≡ None) (sym c.self.view_is) c.requires.stop in
     rw (← c.self.view_is) (
       refl,
-      c.last_txid.ensures.last,
+      c.get.ensures.value ∙ c.last_txid.ensures.last,
       f.count ∙ flushed_count (the_view c.self.inside).shadow c.flush.new.self (record { standby = f.ok; phase = f.phase; settings = f.settings; stands = f.stands }) (c.self.invariant.before_flush a),
       refl,
       promotes (the_view c.self.inside) c.flush.new.self a n (record { standby = f.ok; phase = f.phase; settings = f.settings; stands = f.stands }),

@@ -1,9 +1,8 @@
-use Rattle.std.proofs.Common.{◌≡◌, [], rules, subst}
+use Rattle.std.proofs.Common.{[], subst}
 use Rattle.nn_lane_standby.specs.Tailing.{StandsAt}
 use Rattle.nn_lane_standby.proofs.standby.Standby.new.Goals as goal
 
 pub returns-clause-ok : goal.returns-clause-ok
 returns-clause-ok c =
     let new = c.in_ok-standby.ensures.new in
-    let start : c.in-Some.txid ≡ 0 = search rules in
-    (new.ends, new.begun, new.stop, new.active, subst (λ n. StandsAt n 0 [] c.in_ok-standby.standby) c.new-2.ensures (subst (λ t. StandsAt c.new-2.result t [] c.in_ok-standby.standby) start new.stands))
+    (new.ends, new.begun, new.stop, new.active, subst (λ n. StandsAt n 0 [] c.in_ok-standby.standby) c.new-namespace.ensures new.stands)

@@ -23,13 +23,15 @@ returns-then-self c =
 pub returns-then-get-expected : goal.returns-then-get-expected
 returns-then-get-expected c =
     let x = the_view c.self.inside in
-    subst (λ (y : Shadow). Some (Disorder (x.last + 1)) ≡ turn_refusal y.phase (standby_of y) c.args.tx.now) c.self.view_is
+    let next : c.get-expected.result + 1 ≡ x.last + 1 = ap (λ n. n + 1) c.get-expected.ensures.value in
+    ap (λ n. Some (Disorder n)) next
+    ∙ subst (λ (y : Shadow). Some (Disorder (x.last + 1)) ≡ turn_refusal y.phase (standby_of y) c.args.tx.now) c.self.view_is
     (says_disorder x.phase (standby_of x) c.args.tx.now c.in_default.is c.if-self.false
-    (ap (λ k. k == x.last + 1) (sym c.get.ensures.value) ∙ ne_eqb c.get.result (x.last + 1) c.if-get-expected.true))
+    (ap (λ k. k == x.last + 1) (sym c.get.ensures.value) ∙ ne_eqb c.get.result (x.last + 1) (λ is. c.if-get-expected.true (is ∙ sym next))))
 
 pub returns : goal.returns
 returns c =
     let x = the_view c.self.inside in
     subst (λ (y : Shadow). None ≡ turn_refusal y.phase (standby_of y) c.args.tx.now) c.self.view_is
     (says_nothing x.phase (standby_of x) c.args.tx.now c.in_default.is c.if-self.false
-    (ap (λ k. k == x.last + 1) (sym c.get.ensures.value) ∙ eq-eqb c.get.result (x.last + 1) c.if-get-expected.false))
+    (ap (λ k. k == x.last + 1) (sym c.get.ensures.value) ∙ eq-eqb c.get.result (x.last + 1) (c.if-get-expected.false ∙ ap (λ n. n + 1) c.get-expected.ensures.value)))

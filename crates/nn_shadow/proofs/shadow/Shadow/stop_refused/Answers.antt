@@ -3,7 +3,7 @@ use Rattle.nn_shadow.specs.contracts.shadow.Shadow.{the_view}
 use Rattle.nn_shadow.specs.Contents.{Shadow, standby_of, IsConsistent}
 use Rattle.nn_shadow.specs.Refusals.{turn_refusal}
 use Rattle.nn_shadow.proofs.Consistent.{stopped_at}
-use Rattle.nn_shadow.proofs.shadow.Shadow.refuse.Goals as goal
+use Rattle.nn_shadow.proofs.shadow.Shadow.stop_refused.Goals as goal
 
 pub invariant_of-self : goal.invariant_of-self
 invariant_of-self c =

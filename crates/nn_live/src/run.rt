@@ -127,7 +127,7 @@ fn begin<R: Read>(
     let Ok(service) = Service::begin(
         alloc,
         namespace,
-        txid.get(),
+        txid,
         options.settings,
         options.history,
         options.version,

@@ -1,12 +1,12 @@
 -- A standby that follows lines, one line further.
-use Rattle.std.proofs.Common.{◌≡◌, ◌≢◌, ℕ, suc, Bool, true, false, cond, ◌+◌, ◌≤◌, List, [], ◌∷◌, ◌++◌, length, Option, Some, None, Err, sym, ap, ◌∙◌, subst, arith, append-nil, append_assoc}
+use Rattle.std.proofs.Common.{◌≡◌, ◌≢◌, ℕ, suc, Bool, true, false, cond, ◌+◌, ◌≤◌, List, [], ◌∷◌, ◌++◌, length, Option, Some, None, Ok, Err, sym, ap, ◌∙◌, subst, arith, append-nil, append_assoc}
 use Rattle.std.specs.Prelude.{◌&&◌, ◌==◌, nat_lt, is_some, flat_map}
 use Rattle.std.proofs.lemmas.Bool.{eqb-true, eq-eqb, ne_eqb, ltb-true, ltb-false, and_parts}
 use Rattle.nn_types.specs.declared.report.Message.{Message}
 use Rattle.nn_types.specs.declared.report.Report.{Report}
 use Rattle.nn_types.specs.declared.tx.Tx.{Tx}
 use Rattle.nn_types.specs.declared.edit_fault.EditFault.{EditFault}
-use Rattle.nn_model.specs.Apply.{applied}
+use Rattle.nn_model.specs.Apply.{applied, refusal, outcome, effect}
 use Rattle.nn_model.specs.History.{History}
 use Rattle.nn_model.specs.Lanes.{Lanes, followed_by}
 use Rattle.nn_model.specs.Log.{counted}
@@ -21,7 +21,7 @@ use Rattle.nn_segment.specs.LogEnd.{LogStop, refused, disorder}
 use Rattle.nn_scenario.specs.Steps.{message, message_in_turn}
 use Rattle.nn_run.specs.Start.{Start}
 use Rattle.nn_run.specs.Walk.{HasWalked, Fits}
-use Rattle.nn_run.specs.Following.{Follower, TakesNext, HasFollowed, FollowsEdit, FollowsReport, log_so_far}
+use Rattle.nn_run.specs.Following.{Follower, HasFollowed, FollowsEdit, FollowsReport, log_so_far}
 use Rattle.nn_run.proofs.Walks.{passes, applies, refuses, stops, stays}
 
 -- ---- The log so far.
@@ -118,31 +118,42 @@ passed_over begun tx f none no_gap other = record {
   settings = settings_same f.standby;
 }
 
+-- what a standby does with a transaction, whatever events were forgotten before
+abbrev pub TakesEdit : Tx → Shadow → Shadow → Type 0
+TakesEdit tx x y = (past : History) (start : Namespace) (base : ℕ) (txs : List Tx) (lanes : Lanes) → StandsBy start base txs lanes (with_past past (standby_of x))
+    → StandsBy start base (txs ++ tx ∷ []) lanes (with_past past (standby_of y))
+
+-- its namespace is the one after the edit
+edit_makes : (tx : Tx) (x y : Shadow) → refusal x.namespace tx.edit ≡ None → standby_of y ≡ applied_to (standby_of x) tx → applied x.namespace tx.edit ≡ Ok y.namespace
+edit_makes tx x y fits turn =
+    ap (λ refused. outcome refused (effect x.namespace tx.edit)) fits ∙ ap (λ (s : StandbyState). Ok s.namespace) (sym turn)
+
 -- it is, and its edit applies
 pub edit_applied : (begun : Bool) (tx : Tx) (f g : Follower) → f.stop ≡ None → g.stop ≡ None → (begun && nat_lt (f.standby.last + 1) tx.txid) ≡ false → tx.txid ≡ f.standby.last + 1
-    → TakesNext tx f.standby g.standby → KeepsSettings f.standby g.standby → FollowsEdit begun tx f g
-edit_applied begun tx f g none still no_gap next took settings = record {
+    → refusal f.standby.namespace tx.edit ≡ None → standby_of g.standby ≡ applied_to (standby_of f.standby) tx → TakesEdit tx f.standby g.standby
+    → KeepsSettings f.standby g.standby → FollowsEdit begun tx f g
+edit_applied begun tx f g none still no_gap next edit_fits turn takes settings = record {
   walks = λ past start parts prefix lanes first h.
       let k = followed_so_far past start parts prefix lanes f none h in
       subst (HasFollowed past start parts (prefix ++ tx ∷ []) lanes g.standby) (sym still) (
-        subst (λ n. HasWalked start.txid start.namespace parts (prefix ++ tx ∷ []) n g.standby.namespace) (sym (ap (λ s. s.last) took.turn))
-            (applies start.txid start.namespace parts prefix f.standby.last f.standby.namespace g.standby.namespace tx k.0 (fits begun prefix f.standby.last tx first no_gap) next took.applied),
+        subst (λ n. HasWalked start.txid start.namespace parts (prefix ++ tx ∷ []) n g.standby.namespace) (sym (ap (λ s. s.last) turn))
+            (applies start.txid start.namespace parts prefix f.standby.last f.standby.namespace g.standby.namespace tx k.0 (fits begun prefix f.standby.last tx first no_gap) next (edit_makes tx f.standby g.standby edit_fits turn)),
         subst (λ txs. StandsBy start.namespace start.txid txs lanes (with_past past (standby_of g.standby))) (sym (log_taken start.txid parts prefix tx f.standby.last k.1.stands.last next))
-            (took.stands past start.namespace start.txid (log_so_far start.txid parts prefix) lanes k.1),
+            (takes past start.namespace start.txid (log_so_far start.txid parts prefix) lanes k.1),
       );
-  turn = λ on. (none, took.turn ∙ sym (ap (λ b. cond b (applied_to (standby_of f.standby) tx) (standby_of f.standby)) (eq-eqb tx.txid (f.standby.last + 1) next)));
+  turn = λ on. (none, turn ∙ sym (ap (λ b. cond b (applied_to (standby_of f.standby) tx) (standby_of f.standby)) (eq-eqb tx.txid (f.standby.last + 1) next)));
   settings = settings;
 }
 
 -- or does not
 pub edit_refused : (begun : Bool) (tx : Tx) (f g : Follower) (fault : EditFault) → f.stop ≡ None → g.stop ≡ Some (record { cause = refused fault; txid = tx.txid })
-    → (begun && nat_lt (f.standby.last + 1) tx.txid) ≡ false → tx.txid ≡ f.standby.last + 1 → applied f.standby.namespace tx.edit ≡ Err fault
+    → (begun && nat_lt (f.standby.last + 1) tx.txid) ≡ false → tx.txid ≡ f.standby.last + 1 → refusal f.standby.namespace tx.edit ≡ Some fault
     → KeepsSettings f.standby g.standby → FollowsEdit begun tx f g
 edit_refused begun tx f g fault none stop no_gap next why settings = record {
   walks = λ past start parts prefix lanes first h.
       let k = followed_so_far past start parts prefix lanes f none h in
       subst (HasFollowed past start parts (prefix ++ tx ∷ []) lanes g.standby) (sym stop)
-      (refuses start.txid start.namespace parts prefix f.standby.last f.standby.namespace tx fault k.0 (fits begun prefix f.standby.last tx first no_gap) next why);
+      (refuses start.txid start.namespace parts prefix f.standby.last f.standby.namespace tx fault k.0 (fits begun prefix f.standby.last tx first no_gap) next (ap (λ o. outcome o (effect f.standby.namespace tx.edit)) why));
   turn = λ still. (let z : None ≡ Some (record { cause = refused fault; txid = tx.txid }) = sym still ∙ stop in absurd (cc));
   settings = settings;
 }

@@ -1,15 +1,12 @@
 -- A standby that follows a log and the messages of DataNodes, line by line. For private clauses.
-use Rattle.std.specs.Prelude.{◌≡◌, ◌≢◌, ℕ, ◌+◌, ◌==◌, flat_map, true, false, List, [], ◌∷◌, ◌++◌, length, map, Bool, Option, Some, None, Result, Ok, Err, MatchResult}
+use Rattle.std.specs.Prelude.{◌≡◌, ◌≢◌, ℕ, ◌+◌, ◌==◌, flat_map, true, false, List, [], ◌∷◌, ◌++◌, length, map, Bool, Option, Some, None, Result, Ok, Err}
 use Rattle.nn_types.specs.declared.report.Report.{Report}
 use Rattle.nn_types.specs.declared.tx.Tx.{Tx}
-use Rattle.nn_types.specs.declared.edit_fault.EditFault.{EditFault}
-use Rattle.nn_model.specs.Apply.{applied}
 use Rattle.nn_model.specs.History.{History}
 use Rattle.nn_model.specs.Lanes.{Lanes, followed_by}
 use Rattle.nn_model.specs.Log.{counted, log_of}
-use Rattle.nn_model.specs.Namespace.{Namespace}
 use Rattle.nn_model.specs.Stands.{StandbyState, fresh}
-use Rattle.nn_shadow.specs.Calls.{with_past, applied_to, received}
+use Rattle.nn_shadow.specs.Calls.{with_past, received}
 use Rattle.nn_shadow.specs.Contents.{Shadow, KeepsSettings, standby_of}
 use Rattle.nn_shadow.specs.Laws.{StandsBy}
 use Rattle.nn_shadow.specs.Refusals.{Phase}
@@ -48,18 +45,6 @@ pub record Follower : Type 0 where
 
 abbrev pub without_events : Follower → Follower
 without_events f = record f { standby = record f.standby { history = [] } }
-
--- the standby took this transaction, and stands at it, whatever events were forgotten before
-pub record TakesNext (tx : Tx) (x y : Shadow) : Type 0 where
-  pub turn : standby_of y ≡ applied_to (standby_of x) tx
-  pub applied : applied x.namespace tx.edit ≡ Ok y.namespace
-  pub stands : (past : History) (start : Namespace) (base : ℕ) (txs : List Tx) (lanes : Lanes) → StandsBy start base txs lanes (with_past past (standby_of x))
-      → StandsBy start base (txs ++ tx ∷ []) lanes (with_past past (standby_of y))
-  pub phase : y.phase ≡ serving
-
--- it took it, or the edit does not apply
-abbrev pub AppliesNext : {A : Type 0} → Tx → Shadow → Shadow → Result A EditFault → Type 0
-AppliesNext tx x y r = MatchResult r (λ _. TakesNext tx x y) (λ fault. applied x.namespace tx.edit ≡ Err fault)
 
 -- the log of these parts and of the prefix of the next one, after a txid
 abbrev pub log_so_far : ℕ → List (List Tx) → List Tx → List Tx

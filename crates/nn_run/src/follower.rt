@@ -1,18 +1,11 @@
 //! A standby follows a log and the reports of DataNodes as their lines come.
-ghost use Rattle.std.specs.Prelude.{◌≡◌, ◌≤◌, ◌<◌, ◌^◌, ◌&&◌, nat_lt, ℕ, ◌+◌, List, ◌∷◌, ◌++◌, [], Ok, None, Some, true, false, length, IfOk, IfErr, OnOk, MatchResult};
-ghost use Rattle.nn_types.specs.declared.tx.Tx.{Tx as Transaction};
+ghost use Rattle.std.specs.Prelude.{◌≡◌, ◌≤◌, ◌<◌, ◌^◌, ◌&&◌, nat_lt, ◌+◌, None, Some, length, IfOk, OnOk, MatchResult};
 ghost use Rattle.nn_types.specs.Limits.{max_datanodes};
-ghost use Rattle.nn_model.specs.History.{History};
-ghost use Rattle.nn_model.specs.Lanes.{Lanes, followed_by};
-ghost use Rattle.nn_model.specs.Namespace.{Namespace};
 ghost use Rattle.nn_model.specs.Stands.{fresh};
-ghost use Rattle.nn_shadow.specs.Calls.{with_past, received};
-ghost use Rattle.nn_shadow.specs.Contents.{KeepsSettings, standby_of};
-ghost use Rattle.nn_shadow.specs.Laws.{StandsBy};
-ghost use Rattle.nn_shadow.specs.Refusals.{hand_refusal};
-ghost use Rattle.nn_run.specs.Following.{serving, without_events, stop_of, AppliesNext, FollowsEdit, FollowsReport};
+ghost use Rattle.nn_shadow.specs.Contents.{standby_of};
+ghost use Rattle.nn_run.specs.Following.{serving, without_events, stop_of, FollowsEdit, FollowsReport};
 
-use nn_shadow::{ApplyFault, HandCause, Shadow};
+use nn_shadow::Shadow;
 use nn_types::{EditFault, Message, Report, Tx};
 use std::alloc::AllocError;
 use std::marker::Model;
@@ -101,7 +94,7 @@ impl Follower {
         if txid != last + 1 {
             return Ok(());
         }
-        if let Err(fault) = apply(&mut self.shadow, tx)? {
+        if let Err(fault) = self.shadow.apply_next(tx)? {
             self.stop = Some(LogFault::Refused { fault, txid });
         }
         Ok(())
@@ -125,7 +118,7 @@ impl Follower {
             len: report.len,
             kind: report.kind,
         };
-        hand(&mut self.shadow, message)?;
+        self.shadow.hand_next(message)?;
         self.messages += 1;
         Ok(())
     }
@@ -137,48 +130,4 @@ fn is_gap(begins: bool, last: u64, txid: u64) -> bool
     ensures { result ≡ (begins && nat_lt (last + 1) txid) }
 {
     begins && txid > last + 1
-}
-
-// Applies a transaction, the one after the last. The inner fault says why its edit doesn't apply.
-fn apply(shadow: &mut Shadow, tx: &Tx) -> Result<Result<(), EditFault>, AllocError>
-    requires serving { shadow.old.phase ≡ serving }
-    requires next { tx.now.txid ≡ shadow.old.last + 1 }
-    ensures ok { IfOk result (AppliesNext tx.now shadow.old shadow.new) }
-    ensures numbers { shadow.new.numbers ≡ shadow.old.numbers }
-    ensures settings { KeepsSettings shadow.old shadow.new }
-    ensures err { IfErr result (λ _. shadow.new.phase ≡ serving) }
-{
-    let Err(fault) = shadow.apply(tx) else {
-        return Ok(Ok(()));
-    };
-    match fault {
-        ApplyFault::Refused(fault) => Ok(Err(fault)),
-        ApplyFault::OutOfMemory => Err(AllocError),
-        ApplyFault::Stopped(_) | ApplyFault::AlreadyActive | ApplyFault::Disorder { .. } => {
-            unreachable!()
-        }
-    }
-}
-
-// Hands over a message that is refused only if memory runs out.
-fn hand(shadow: &mut Shadow, message: Message) -> Result<(), AllocError>
-    requires { hand_refusal (length shadow.old.numbers) shadow.old.phase (standby_of shadow.old) message ≡ None }
-    ensures stands { OnOk result ((past : History) (start : Namespace) (base : ℕ) (txs : List Transaction) (lanes : Lanes)
-        → StandsBy start base txs lanes (with_past past (standby_of shadow.old)) → StandsBy start base txs (followed_by lanes message) (with_past past (standby_of shadow.new))) }
-    ensures turn { OnOk result (standby_of shadow.new ≡ received (standby_of shadow.old) message) }
-    ensures same { (shadow.new.namespace ≡ shadow.old.namespace) × (shadow.new.last ≡ shadow.old.last) }
-    ensures left { IfErr result (λ _. standby_of shadow.new ≡ standby_of shadow.old) }
-    ensures phase { shadow.new.phase ≡ shadow.old.phase }
-    ensures settings { KeepsSettings shadow.old shadow.new }
-{
-    let Err(fault) = shadow.hand(message) else {
-        return Ok(());
-    };
-    match fault.cause {
-        HandCause::OutOfMemory => Err(AllocError),
-        HandCause::Stopped(_)
-        | HandCause::AlreadyActive
-        | HandCause::BadLane
-        | HandCause::WrongNumber => unreachable!(),
-    }
 }

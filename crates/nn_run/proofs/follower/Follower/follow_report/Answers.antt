@@ -8,14 +8,14 @@ use Rattle.nn_run.proofs.follower.Follower.follow_report.Goals as goal
 
 pub invariant_of-self : goal.invariant_of-self
 invariant_of-self c = (
-  λ none. (let k = c.self.invariant.0 none in (c.hand.ensures.phase ∙ k.0, c.hand.ensures.settings.datanodes ∙ k.1)),
-  λ dn. subst (λ n. n ≤ c.self.inside.messages) (sym (ap (λ (s : StandbyState). s.last_number dn) c.in_err-hand.ensures.left)) (c.self.invariant.1 dn),
+  λ none. (let k = c.self.invariant.0 none in (c.hand_next.ensures.phase ∙ k.0, c.hand_next.ensures.settings.datanodes ∙ k.1)),
+  λ dn. subst (λ n. n ≤ c.self.inside.messages) (sym (ap (λ (s : StandbyState). s.last_number dn) c.in_err-hand_next.ensures.left)) (c.self.invariant.1 dn),
 )
 
 pub invariant_of-self-2 : goal.invariant_of-self-2
 invariant_of-self-2 c = (
-  λ none. (let k = c.self.invariant.0 none in (c.hand.ensures.phase ∙ k.0, c.hand.ensures.settings.datanodes ∙ k.1)),
-  numbers_grow c.self.inside.shadow c.hand.new.shadow _ c.self.inside.messages c.in_ok-hand.ensures.turn c.self.invariant.1
+  λ none. (let k = c.self.invariant.0 none in (c.hand_next.ensures.phase ∙ k.0, c.hand_next.ensures.settings.datanodes ∙ k.1)),
+  numbers_grow c.self.inside.shadow c.hand_next.new.self _ c.self.inside.messages c.in_ok-hand_next.ensures.ok c.self.invariant.1
       (let k = c.self.invariant.1 c.args.report.now.dn in omega (arith, c.last_number.ensures, k)),
 )
 
@@ -24,7 +24,7 @@ returns-clause-ok c =
     let r = c.args.report.now in
     let stop = option_map stop_of c.self.inside.stop in
     let f : Follower = record { standby = c.self.inside.shadow; messages = c.self.inside.messages; stop = stop } in
-    let g : Follower = record { standby = c.hand.new.shadow; messages = c.self.inside.messages + 1; stop = stop } in
+    let g : Follower = record { standby = c.hand_next.new.self; messages = c.self.inside.messages + 1; stop = stop } in
     let none : stop ≡ None = ap (option_map stop_of) (None-if_not_some c.self.inside.stop (sym c.is_some.ensures ∙ c.if-is_some.false)) in
     subst (λ x. FollowsReport r x g) c.self.view_is
-    (report_followed r (c.last_number.result + 1) f g none none (ap (λ n. n + 1) c.last_number.ensures) c.hand.ensures.same c.in_ok-hand.ensures.stands c.in_ok-hand.ensures.turn c.hand.ensures.settings)
+    (report_followed r (c.last_number.result + 1) f g none none (ap (λ n. n + 1) c.last_number.ensures) c.hand_next.ensures.stays (λ past start base txs lanes h. (c.in_ok-hand_next.ensures.stands past start base txs lanes h).0) c.in_ok-hand_next.ensures.ok c.hand_next.ensures.settings)

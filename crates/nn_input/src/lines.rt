@@ -1,7 +1,5 @@
 //! The lines of a reader, one after another.
-ghost use Rattle.std.specs.Prelude.{◌≡◌, ◌==◌, ◌≤◌, ◌<◌, ◌+◌, ◌^◌, [], ◌∷◌, List, ℕ, false, length, IfOk, IfErr, IfSome, None, true};
-ghost use Rattle.std.specs.List.{position_or_len};
-ghost use Rattle.nn_bytes.specs.Lines.{line_feed};
+ghost use Rattle.std.specs.Prelude.{◌≡◌, ◌≤◌, ◌<◌, ◌+◌, ◌^◌, [], ◌∷◌, List, ℕ, false, length, IfOk, IfErr, IfSome, None, true};
 ghost use Rattle.std.specs.Io.KnownBytes.{IsAtEnd, Keeps};
 ghost use Rattle.nn_device.specs.Device.{FailedToReadOn};
 ghost use Rattle.nn_input.specs.Cut.{AsNoted, HasCome, HasEnded, IsCutTo, IsFresh, IsThere, NextEnded, ReadOn, Refilled, ahead, line_blank, line_text, still_to_cut};
@@ -82,17 +80,15 @@ impl Lines {
         let left = &self.buffer[from..self.to];
         let end = line_end(left);
         if end == left.len() || !self.torn.as_slice().is_empty() {
-            return self.cut_torn(end, most);
+            return self.cut_torn(most);
         }
         self.from = from + end + 1;
         Ok(Some(Place::Read(from, from + end)))
     }
 
-    // The same where no line feed is ahead, or bytes of the line are kept. `end` is the place of the first line feed, or the length.
-    // A line that came in one read takes the short way.
-    fn cut_torn(&mut self, end: usize, most: usize) -> Result<Option<Place>, AllocError>
-        requires end { end ≡ position_or_len (λ b. b == line_feed) (ahead self.old) }
-        requires within { end ≤ length (ahead self.old) }
+    // The same where no line ends in what was read, or bytes of the one that ends are kept. It looks for the line feed again: so a line
+    // that came in one read takes a short way.
+    fn cut_torn(&mut self, most: usize) -> Result<Option<Place>, AllocError>
         ensures shorter { IfOk result (λ found. IfSome found (λ _. length (ahead self.new) < length (ahead self.old))) }
         ensures few { length (ahead self.new) ≤ 2 ^ 16 }
         ensures there { IfOk result (λ found. IfSome found (λ place. IsThere place self.new)) }
@@ -102,6 +98,7 @@ impl Lines {
     {
         let from = self.from;
         let left = &self.buffer[from..self.to];
+        let end = line_end(left);
         let text = &left[..end];
         if end == left.len() {
             if let Err(_) = self.torn.push(text, most) {

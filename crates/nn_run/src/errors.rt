@@ -106,11 +106,7 @@ pub(crate) fn put_segment_words<W: Write>(
             put_of_line(page, writer, line, " is no transaction: ");
             page.put(writer, line_words(fault).as_bytes());
         }
-        SegmentFault::Gap { expected } => {
-            page.put(writer, b"transaction ");
-            put_number(page, writer, expected);
-            page.put(writer, b" is missing");
-        }
+        SegmentFault::Gap { expected } => put_missing(page, writer, expected),
         SegmentFault::WrongProfile { line } => {
             put_of_line(page, writer, line, " is an append, in a segment of profile 1");
         }
@@ -127,4 +123,13 @@ fn put_of_line<W: Write>(page: &mut Page, writer: &mut Writer<W>, line: u64, wor
     page.put(writer, b"line ");
     put_number(page, writer, line);
     page.put(writer, words.as_bytes());
+}
+
+// That a transaction is missing.
+fn put_missing<W: Write>(page: &mut Page, writer: &mut Writer<W>, txid: u64)
+    ensures { PutsPiece (codes "transaction " ++ decimal txid ++ codes " is missing") page.old writer.old page.new writer.new }
+{
+    page.put(writer, b"transaction ");
+    put_number(page, writer, txid);
+    page.put(writer, b" is missing");
 }

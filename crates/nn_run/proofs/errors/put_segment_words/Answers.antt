@@ -10,7 +10,7 @@ pub returns-in-NoStart : goal.returns-in-NoStart
 returns-in-NoStart g c = rw c.in-NoStart.is c.put-in-NoStart.ensures
 
 pub returns-in-Gap : goal.returns-in-Gap
-returns-in-Gap g c = rw c.in-Gap.is c.put_numbered-in-Gap.ensures
+returns-in-Gap g c = rw c.in-Gap.is c.put_missing.ensures
 
 pub returns-in-NoEnd : goal.returns-in-NoEnd
 returns-in-NoEnd g c = rw c.in-NoEnd.is c.put-in-NoEnd.ensures

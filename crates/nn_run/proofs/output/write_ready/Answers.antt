@@ -13,7 +13,7 @@ overflow_sub-written g c =
 pub returns-in-Ok-clause-ok : goal.returns-in-Ok-clause-ok
 returns-in-Ok-clause-ok g c =
     let w = c.args.writer.now in
-    (c.in-Ok.ensures.ok w _ (c.put.ensures w [] (c.new-page.ensures w)), c.status-status.ensures)
+    (c.in-Ok.ensures.ok w _ (c.put.ensures w [] (c.new-page.ensures w)), c.end-run_end.ensures)
 
 pub returns-in-Err-clause-prefix : goal.returns-in-Err-clause-prefix
 returns-in-Err-clause-prefix g c =

@@ -24,7 +24,8 @@ pub record HasServed (asked : LiveSetup) (first : ServiceState) (bytes told : Li
 -- more of its lines were taken, and this was told of them
 abbrev pub TakesLines : ServedInput → ServedInput → List ℕ → Type 0
 TakesLines old new more =
-    (asked : LiveSetup) (first : ServiceState) (bytes told : List ℕ) → HasServed asked first bytes told old → HasServed asked first bytes (told ++ more) new
+    (asked : LiveSetup) (first : ServiceState) (bytes told : List ℕ) → HasServed asked first bytes told old
+    → HasServed asked first bytes (told ++ more) new
 
 -- or one of them was not taken
 abbrev pub LeavesLine : ServedInput → List ℕ → Type 0

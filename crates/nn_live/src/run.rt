@@ -80,8 +80,10 @@ fn finish<W: Write>(
     before: u64,
     status: u8,
 ) -> Result<RunEnd, RunFault>
-    ensures written { IfOk result (λ end. (end.status ≡ status) × ((start : WriterView) (text : List ℕ) → HasPut start text page writer.old → Took start writer.new text)) }
-    ensures prefix { IfErr result (λ fault. (start : WriterView) (text : List ℕ) → HasPut start text page writer.old → before ≡ start.taken → Unfinished start writer.new text fault) }
+    ensures written { IfOk result (λ end. (end.status ≡ status)
+        × ((start : WriterView) (text : List ℕ) → HasPut start text page writer.old → Took start writer.new text)) }
+    ensures prefix { IfErr result (λ fault. (start : WriterView) (text : List ℕ) → HasPut start text page writer.old
+        → before ≡ start.taken → Unfinished start writer.new text fault) }
 {
     match page.end(writer) {
         Ok(()) => Ok(RunEnd {

@@ -93,7 +93,9 @@ impl ServedInput {
     {
         let text = self.lines.text(place);
         if text.len() > MAX_LINE_LEN {
-            return self.service.long_line(page, writer, self.lines.is_blank(place));
+            return self
+                .service
+                .long_line(page, writer, self.lines.is_blank(place));
         }
         self.service.line(&mut self.scratch, page, writer, text)
     }
@@ -114,7 +116,9 @@ impl ServedInput {
     {
         let torn = self.lines.torn();
         if torn.len() > MAX_LINE_LEN {
-            return self.service.end_long(page, writer, self.lines.is_torn_blank());
+            return self
+                .service
+                .end_long(page, writer, self.lines.is_torn_blank());
         }
         self.service.end(&mut self.scratch, page, writer, torn)
     }

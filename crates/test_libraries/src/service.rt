@@ -135,7 +135,8 @@ fn taken(answer: Result<(), ServiceFault>) -> Result<(), Fail> {
 
 fn begun(alloc: Global) -> Result<Live, Fail> {
     let namespace = Namespace::new(alloc);
-    let Ok(service) = Service::begin(alloc, namespace, Txid::ZERO, settings(999, 1)?, true, "0.1") else {
+    let Ok(service) = Service::begin(alloc, namespace, Txid::ZERO, settings(999, 1)?, true, "0.1")
+    else {
         return Err(Fail::new("memory is refused"));
     };
     Ok(Live::of(alloc, service))

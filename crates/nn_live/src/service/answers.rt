@@ -116,7 +116,11 @@ impl Service {
         ensures { IfOk result (λ listing. listing ≡ listing_text self.now.shadow.last self.now.shadow.namespace) }
     {
         let namespace = self.shadow.namespace();
-        ReadyListing::of(namespace, namespace.extent()?, self.shadow.last_txid().get())
+        ReadyListing::of(
+            namespace,
+            namespace.extent()?,
+            self.shadow.last_txid().get(),
+        )
     }
 
     fn table_lines(&self) -> Result<ReadyTables<'_>, AllocError>

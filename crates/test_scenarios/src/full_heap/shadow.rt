@@ -125,13 +125,7 @@ impl Making for Start<'_> {
     type Made = Shadow;
 
     fn call(&self, namespace: Namespace) -> Result<Shadow, (Answer, Namespace)> {
-        match Shadow::from(
-            self.alloc,
-            namespace,
-            self.txid,
-            DATANODES,
-            self.settings,
-        ) {
+        match Shadow::from(self.alloc, namespace, self.txid, DATANODES, self.settings) {
             Ok(shadow) => Ok(shadow),
             Err(fault) => Err((Answer::OutOfMemory, fault.namespace)),
         }

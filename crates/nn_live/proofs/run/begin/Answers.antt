@@ -15,6 +15,5 @@ pub returns-clause-begun : goal.returns-clause-begun
 returns-clause-begun g c =
     let o = c.args.options.now in
     let at = c.in-Ok-begin_at.at in
-    let there = subst (λ t. IsAtService (asked_by o) c.in-Ok-begin.service (new_service at.0 t)) c.get.ensures.value c.in-Ok-begin.ensures.ok in
     is_begun (serving_by o c.args.input.now c.begin_at.new.input) at.0 at.1 c.begin_at.new.lines c.in-Ok-begin_at.ensures.begins c.of.result c.of.ensures.lines
-    (subst (λ (x : Service). IsAtService (asked_by o) x (new_service at.0 at.1)) (sym c.of.ensures.service) there)
+    (subst (λ (x : Service). IsAtService (asked_by o) x (new_service at.0 at.1)) (sym c.of.ensures.service) c.in-Ok-begin.ensures.ok)

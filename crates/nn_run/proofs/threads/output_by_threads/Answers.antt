@@ -14,6 +14,7 @@ returns-in-Ok g c = λ text read.
     printed_of_told (start_of c.args.begin) true c.args.asked.now.options text (scenario_of_read c.in-Ok.scenario) (shown c.args.asked.now.options o) (subst (IsScenarioOf text) c.in-Ok.is read).ok told) c.output_of_threads.ensures
 
 pub returns-in_ok-of_bad_line-in-Err : goal.returns-in_ok-of_bad_line-in-Err
-returns-in_ok-of_bad_line-in-Err g c = λ text read.
+returns-in_ok-of_bad_line-in-Err g c text read =
+    let bad = c.in-Err.bad in
     let told = c.in_ok-of_bad_line-in-Err.ensures in
-    printed_of_bad (start_of c.args.begin) true c.args.asked.now.options text c.in-Err.bad (failed c.in_ok-of_bad_line-in-Err.field-0) ((subst (IsScenarioOf text) c.in-Err.is read).bad told.0) told.1
+    printed_of_bad (start_of c.args.begin) true c.args.asked.now.options text bad (failed c.in_ok-of_bad_line-in-Err.field-0) ((subst (IsScenarioOf text) c.in-Err.is read).bad told.0) told.1

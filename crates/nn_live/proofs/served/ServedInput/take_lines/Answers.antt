@@ -45,8 +45,8 @@ returns-in-Err-clause-prefix g c =
       was.0 ++ broke.0,
       puts_both was.0 broke.0 _ _ _ _ _ _ was.1 broke.1,
       then_left c.args.self.now mid was.0 broke.0 taken (λ asked first bytes told h.
-      let ended = of_some _ c.in-Some.is c.in-Ok.ensures.line bytes h.lines h.come in
-      line_left asked first bytes told mid h c.in-Some.place c.cut.new.self ended broke.0 (broke.2 ended.line ended.text)),
+          let ended = of_some _ c.in-Some.is c.in-Ok.ensures.line bytes h.lines h.come in
+          line_left asked first bytes told mid h c.in-Some.place c.cut.new.self ended broke.0 (broke.2 ended.line ended.text)),
     )
 
 pub lines-preserved : goal.lines-preserved

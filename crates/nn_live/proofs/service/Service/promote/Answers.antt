@@ -37,8 +37,8 @@ returns-then-not-ends_at-clause-ok g c =
     let none = none_unless x.shadow.phase.stopped (c.if-is_some.ensures ∙ ap is_some c.stop.ensures) in
     let is : (c.args.losing || (x.in_hand.edits == 0)) ≡ true = ap (λ (v : Service). c.args.losing || (v.in_hand.edits == 0)) here ∙ not-false _ (sym c.if-is_inside.ensures) in
     let isnt : log_ends x.shadow.last x.known c.args.txid c.args.losing ≡ false = ap (λ (v : Service). log_ends v.shadow.last v.known c.args.txid c.args.losing) here ∙ sym c.if-not-ends_at.ensures in
-    let text = fault_text DISORDER (codes " txid ") (c.last_txid-next.result + 1) in
-    let made = subst (λ l. FollowsStep step x x (fault_text DISORDER (codes " txid ") (l + 1))) (sym c.last_txid-next.ensures.last) (not_there x c.args.txid c.args.losing none is isnt) in
+    let text = fault_text DISORDER (codes " txid ") (c.get-next.result + 1) in
+    let made = subst (λ l. FollowsStep step x x (fault_text DISORDER (codes " txid ") (l + 1))) (sym (c.get-next.ensures.value ∙ c.last_txid.ensures.last)) (not_there x c.args.txid c.args.losing none is isnt) in
     (text, c.put_fault-then-not-ends_at.ensures, subst (λ (v : Service). FollowsStep step v v text) here made)
 
 pub returns-clause-ok : goal.returns-clause-ok

@@ -108,7 +108,12 @@ pub(crate) fn put_segment_words<W: Write>(
         }
         SegmentFault::Gap { expected } => put_missing(page, writer, expected),
         SegmentFault::WrongProfile { line } => {
-            put_of_line(page, writer, line, " is an append, in a segment of profile 1");
+            put_of_line(
+                page,
+                writer,
+                line,
+                " is an append, in a segment of profile 1",
+            );
         }
         SegmentFault::NoEnd => page.put(writer, b"no end mark, or a mark inside"),
         SegmentFault::NameMismatch => page.put(writer, b"named for other transactions"),

@@ -1,5 +1,5 @@
 //! What the program does for its arguments, over any reader and writers.
-ghost use Rattle.std.specs.Prelude.{◌≡◌, ◌≤◌, ◌⊎◌, ℕ, List, None, IfOk, IfErr, IfSome, map, string_bytes};
+ghost use Rattle.std.specs.Prelude.{◌≡◌, ◌≤◌, ◌⊎◌, ℕ, List, None, false, IfOk, IfErr, IfSome, map, string_bytes};
 ghost use Rattle.nn_device.specs.Device.{Took, FailedToWrite};
 ghost use Rattle.clap.specs.Words.{kind_of};
 ghost use Rattle.nn_run.specs.Run.{error_of};

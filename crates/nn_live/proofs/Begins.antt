@@ -1,5 +1,5 @@
 -- Where a service begins, or why none does.
-use Rattle.std.proofs.Common.{◌≡◌, ◌⊎◌, ℕ, true, false, List, [], ◌∷◌, ◌++◌, length, Ok, Err, Result, refl, sym, subst, ap, ap₂, ◌∙◌, arith, inl, inr, append-nil}
+use Rattle.std.proofs.Common.{◌≡◌, ◌⊎◌, ℕ, true, false, List, [], ◌∷◌, ◌++◌, Ok, Err, refl, sym, subst, ap, ap₂, ◌∙◌, arith, inl, inr, append-nil}
 use Rattle.std.specs.Result.{is_ok}
 use Rattle.nn_bytes.specs.Pieces.{joined_lines}
 use Rattle.nn_device.specs.Device.{Reader}
@@ -10,7 +10,7 @@ use Rattle.nn_input.specs.Cut.{Came, IsFresh, Lines, ahead}
 use Rattle.nn_model.specs.Namespace.{Namespace, root_alone}
 use Rattle.nn_run.specs.Output.{image_fault}
 use Rattle.nn_live.specs.Live.{Stage, exit_status, new_service, refused, so_far, stage_at_end, takes_end, told_so_far, written_of}
-use Rattle.nn_live.specs.Running.{BeginsAt, GaveBytes, IsLiveOutput, IsToldAtOnce, IsUnderWay, Run, asked_by, halt_text, live_output, serving_by}
+use Rattle.nn_live.specs.Running.{BeginsAt, GaveBytes, IsLiveOutput, IsToldAtOnce, IsUnderWay, Run, asked_by, halt_text, serving_by}
 use Rattle.nn_live.specs.Served.{ServedInput}
 use Rattle.nn_live.specs.Serving.{IsAtService}
 use Rattle.nn_live.specs.Taking.{stage_after}

@@ -1,5 +1,5 @@
 -- What a service tells of no bytes, and of an input where no line was taken.
-use Rattle.std.proofs.Common.{◌≡◌, ℕ, Bool, true, false, List, [], ◌∷◌, ◌++◌, refl, sym, ap, ◌∙◌, inl, inr, append-nil, append_assoc}
+use Rattle.std.proofs.Common.{◌≡◌, ℕ, Bool, true, false, List, [], ◌∷◌, ◌++◌, refl, sym, ap, ◌∙◌, inl, inr, append_assoc}
 use Rattle.nn_model.specs.Namespace.{root_alone}
 use Rattle.nn_live.specs.Live.{LiveSetup, new_service, so_far, takes_pieces, told_so_far}
 use Rattle.nn_live.specs.Running.{IsHalt, IsToldAtOnce, StandsBehind, asked_by, lines_say}

@@ -1,12 +1,12 @@
 -- The lines of an input, which a service takes as they come.
-use Rattle.std.proofs.Common.{◌≡◌, ◌⊎◌, inl, inr, ℕ, ◌+◌, ◌<◌, ◌≤◌, ◌^◌, Bool, true, false, List, [], ◌∷◌, ◌++◌, length, take, refl, sym, ap, subst, ◌∙◌, arith, append_assoc, append-nil}
+use Rattle.std.proofs.Common.{◌≡◌, ◌⊎◌, inl, inr, ℕ, ◌+◌, ◌<◌, ◌≤◌, Bool, true, List, [], ◌∷◌, ◌++◌, length, take, refl, sym, ap, subst, ◌∙◌, arith, append_assoc, append-nil}
 use Rattle.std.specs.List.{list_all}
 use Rattle.std.proofs.lemmas.List.{length-take}
-use Rattle.nn_bytes.specs.Lines.{is_blank, line_feed}
+use Rattle.nn_bytes.specs.Lines.{line_feed}
 use Rattle.nn_bytes.specs.Pieces.{is_unbroken, joined_lines, pieces}
 use Rattle.nn_bytes.proofs.PieceLemmas.{joined_more, lines_first, some_piece}
 use Rattle.nn_device.specs.Device.{Reader}
-use Rattle.nn_input.specs.Cut.{HasCome, HasEnded, IsCutTo, IsFresh, KeepsFirst, Lines, Refilled, TornBytes, ahead}
+use Rattle.nn_input.specs.Cut.{HasEnded, IsCutTo, IsFresh, KeepsFirst, Lines, Refilled, TornBytes, ahead}
 use Rattle.nn_input.specs.declared.lines.Place.{Place}
 use Rattle.nn_input.proofs.Cuts.{come_ahead, comes_ahead, kept_text}
 use Rattle.nn_scenario.specs.Follow.{IsLineText}
@@ -58,7 +58,7 @@ pieces_taken asked (line ∷ []) p ps s = refl
 pieces_taken asked (line ∷ next ∷ lines) p ps s = pieces_taken asked (next ∷ lines) p ps (takes asked line s)
 
 -- whatever follows them
-pub lines_stage : (asked : LiveSetup) (lines : List (List ℕ)) (more : List ℕ) (s : ServiceState) → list_all is_unbroken lines ≡ true
+lines_stage : (asked : LiveSetup) (lines : List (List ℕ)) (more : List ℕ) (s : ServiceState) → list_all is_unbroken lines ≡ true
     → stage_after asked s (joined_lines lines ++ more) ≡ stage_after asked (takes_all asked lines s) more
 lines_stage asked lines more s each =
     let others = some_piece more in
@@ -80,17 +80,14 @@ module _ (asked : LiveSetup) (first : ServiceState) (bytes told : List ℕ) (x :
   now = takes_all asked h.lines first
 
   -- bytes that are not cut are not taken
-  pub not_cut : stage_after asked first bytes ≡ stage_after asked now (h.come.torn ++ ahead x.lines)
+  not_cut : stage_after asked first bytes ≡ stage_after asked now (h.come.torn ++ ahead x.lines)
   not_cut = ap (stage_after asked first) h.come.joined ∙ lines_stage asked h.lines (h.come.torn ++ ahead x.lines) first h.come.each
 
   -- once all is cut, each line that has ended is taken
   pub all_taken : ahead x.lines ≡ [] → stage_after asked first bytes ≡ (serving now, h.come.torn)
   all_taken none = not_cut ∙ ap (λ a. stage_after asked now (h.come.torn ++ a)) none ∙ ap (stage_after asked now) (append-nil h.come.torn) ∙ ended asked now h.come.torn h.come.unbroken
 
-  -- the same bytes in other hands
-  pub as_before : HasServed asked first bytes (told ++ []) x
-  as_before = record { lines = h.lines; come = h.come; at = h.at; written = h.written ∙ sym (append-nil told) }
-
+  -- or the line in hand goes on
   pub cut_on : (l : Lines) → IsCutTo (max_line + 1) x.lines l → HasServed asked first bytes told (record { service = x.service; lines = l })
   cut_on l cut = record { lines = h.lines; come = cut bytes h.lines h.come; at = h.at; written = h.written }
 

@@ -1,5 +1,5 @@
 -- A service that is fed by a reader: what it was given, and what it wrote.
-use Rattle.std.proofs.Common.{◌≡◌, ◌⊎◌, ℕ, ◌+◌, ◌≤◌, Bool, true, false, List, [], ◌∷◌, ◌++◌, length, take, Option, Some, None, refl, sym, subst, ap, ◌∙◌, append-nil, arith, inl, inr, length-append}
+use Rattle.std.proofs.Common.{◌≡◌, ◌⊎◌, ℕ, ◌+◌, true, List, [], ◌++◌, Option, Some, None, refl, sym, subst, ap, ◌∙◌, arith, inl, inr, length-append}
 use Rattle.std.specs.Io.KnownBytes.{Consumes, Keeps}
 use Rattle.std.proofs.KnownBytes.{Consumes-nil, Consumes-trans}
 use Rattle.nn_device.specs.Device.{IsRefusal, Reader, Writer}
@@ -10,7 +10,7 @@ use Rattle.nn_device.specs.declared.writer.OutputFault.{OutputFault}
 use Rattle.nn_device.specs.declared.writer.OutputFault.TheVariants.{WriteFailed}
 use Rattle.nn_run.specs.Output.{image_fault}
 use Rattle.nn_image.specs.declared.fault.ImageFault.{ImageFault}
-use Rattle.nn_live.specs.Live.{ended, refused, so_far, exit_status, told_so_far, written_of}
+use Rattle.nn_live.specs.Live.{ended, refused, so_far, exit_status, written_of}
 use Rattle.nn_live.specs.Running.{EndsRun, GaveBytes, Halts, HaltsAtEnd, IsHalt, IsCutOff, IsLiveOutput, IsReader, IsToldAtOnce, IsUntaken, Run, asked_by, halt_text, live_output, serving_by}
 use Rattle.nn_live.specs.declared.run.LiveEnd.{LiveEnd}
 use Rattle.nn_live.specs.declared.run.LiveEnd.TheVariants as halt
@@ -52,41 +52,17 @@ nothing_served o r = record {
   is = inl (inl (refl, refl));
 }
 
--- ---- What it wrote.
-
--- an empty page has nothing to be written
-pub nothing_left : (p : Page) (w : Writer) → HasPut w [] p w → p.left ≡ []
-nothing_left p w put = at p.lost p.left put
-  where
-    at : (lost : Bool) (left : List ℕ) → HasGone lost w [] left w → left ≡ []
-    at false left put = none put.prefix put.whole
-      where
-        none : (prefix : List ℕ) → [] ≡ prefix ++ left → left ≡ []
-        none [] e = sym e
-        none (x ∷ prefix) e = absurd (cc)
-    at true left put = absurd (omega (arith, put.short, ap length put.whole, length-append put.prefix put.rest))
-
--- and no write of it failed
-pub nothing_lost : (p : Page) (w : Writer) → HasPut w [] p w → p.lost ≡ false
-nothing_lost p w put = at p.lost refl put
-  where
-    at : (lost : Bool) → p.lost ≡ lost → HasGone lost w [] p.left w → p.lost ≡ false
-    at false is put = is
-    at true is put = absurd (omega (arith, put.short, ap length put.whole, length-append put.prefix put.rest))
-
 -- a read that failed was refused, or was not made
 pub cut_off : (before old new : Reader) → old.failed ≡ before.failed → new.given ≡ old.given → IsRefusal old new → IsCutOff before new
 cut_off before old new same counted (inl noted) = inl noted
 cut_off before old new same counted (inr (inl failed)) = inr (inl (sym same ∙ failed))
 cut_off before old new same counted (inr (inr all)) = inr (inr (omega (arith, all, counted)))
 
+-- ---- What it wrote.
+
 -- behind a failed write it has a prefix
 pub lost_prefix : (p : Page) (start now : Writer) (text : List ℕ) → p.lost ≡ true → HasPut start text p now → TookPrefix start now text WriteFailed
 lost_prefix p start now text lost put = subst (λ b. HasGone b start text p.left now) lost put
-
--- the page and the writer that two ways came to
-pub there : (start : Writer) (text : List ℕ) (p q : Page) (w x : Writer) → p ≡ q → w ≡ x → HasPut start text q x → HasPut start text p w
-there start text p q w x page writer put = subst (λ (r : Page). HasPut start text r w) (sym page) (subst (HasPut start text q) (sym writer) put)
 
 pub prefix_took : (start now : Writer) (text : List ℕ) (cause : OutputFault) → cause ≡ WriteFailed → TookPrefix start now text cause → TookPrefix start now text WriteFailed
 prefix_took start now text cause is took = subst (TookPrefix start now text) is took

@@ -1,10 +1,10 @@
 -- A service that is under way: what it has told, and how it ends.
-use Rattle.std.proofs.Common.{◌≡◌, ℕ, ◌≤◌, Bool, true, false, cond, is_some, List, [], ◌∷◌, ◌++◌, length, refl, sym, subst, ap, ap₂, ◌∙◌, arith, inl, inr, append-nil, append_assoc}
+use Rattle.std.proofs.Common.{◌≡◌, ℕ, ◌≤◌, Bool, cond, is_some, List, [], ◌++◌, length, refl, sym, subst, ap, ap₂, ◌∙◌, inl, inr, append-nil, append_assoc}
 use Rattle.std.specs.Io.KnownBytes.{IsAtEnd}
 use Rattle.nn_device.specs.Device.{Reader}
 use Rattle.nn_input.specs.Cut.{ahead}
 use Rattle.nn_live.specs.Live.{LiveSetup, ServiceState, Stage, ends, exit_status, live_text, serving, so_far, stage_at_end, takes_all, takes_end, takes_torn, written_of}
-use Rattle.nn_live.specs.Running.{EndsRun, Halts, HasTold, IsSoFar, IsUnderWay, Run, asked_by, lines_say, live_output, serving_by}
+use Rattle.nn_live.specs.Running.{EndsRun, Halts, IsSoFar, IsUnderWay, Run, asked_by, lines_say, serving_by}
 use Rattle.nn_live.specs.Served.{LeavesLine, ReadsAhead, ServedInput, StopsReading, TakesLines}
 use Rattle.nn_live.specs.Serving.{BreaksAtEnd, FollowsStep, Service}
 use Rattle.nn_live.specs.Taking.{LacksLine}

@@ -1,5 +1,5 @@
 //! A standby in service: from a reader's bytes to a writer's.
-ghost use Rattle.std.specs.Prelude.{◌≡◌, ◌<◌, ◌-◌, ◌^◌, [], List, ℕ, false, ◌++◌, IfOk, IfErr, OnErr};
+ghost use Rattle.std.specs.Prelude.{◌≡◌, ◌<◌, ◌-◌, [], List, ℕ, false, ◌++◌, IfOk, IfErr, OnErr};
 ghost use Rattle.nn_device.specs.Device.{Reader as ReaderView, Took, Writer as WriterView};
 ghost use Rattle.nn_device.specs.Page.{HasPut, PutsPiece};
 ghost use Rattle.nn_input.specs.Cut.{IsFresh, ahead};

@@ -1,4 +1,4 @@
-use Rattle.std.proofs.Common.{◌≡◌, ◌++◌, ◌∙◌, [], sym, subst, append-nil}
+use Rattle.std.proofs.Common.{◌++◌, ◌∙◌, [], sym, subst, append-nil}
 use Rattle.nn_device.specs.Page.{PutsPiece}
 use Rattle.nn_device.proofs.Pages.{puts_both}
 use Rattle.nn_live.specs.Running.{IsUnderWay, serving_by}

@@ -1,6 +1,5 @@
-use Rattle.std.proofs.Common.{◌≡◌, ◌+◌, true, length, refl, subst, sym, ap, ◌∙◌, arith}
+use Rattle.std.proofs.Common.{◌+◌, refl, subst, sym, arith}
 use Rattle.std.proofs.lemmas.Result.{IfOk-weaker, IfErr-weaker}
-use Rattle.nn_bytes.specs.Pieces.{is_unbroken}
 use Rattle.nn_input.specs.Cut.{KeepsFirst}
 use Rattle.nn_scenario.proofs.FollowLemmas.{text_unbroken}
 use Rattle.nn_types.specs.Limits.{max_line}

@@ -1,4 +1,4 @@
-use Rattle.std.proofs.Common.{◌≡◌, [], ◌∷◌, ◌++◌, ◌+◌, length, sym, subst, ap, ◌∙◌, arith}
+use Rattle.std.proofs.Common.{◌≡◌, [], ◌∷◌, ◌++◌, ◌+◌, length, sym, subst, ap, arith}
 use Rattle.nn_device.proofs.Pages.{puts_both, puts_nothing}
 use Rattle.nn_input.specs.Cut.{HasCome, ahead}
 use Rattle.nn_scenario.proofs.FollowLemmas.{of_some}

@@ -1,5 +1,5 @@
 //! What the program does for its arguments, over any reader and writers.
-ghost use Rattle.std.specs.Prelude.{◌≡◌, ◌≤◌, ◌⊎◌, ℕ, List, None, false, IfOk, IfErr, IfSome, map, string_bytes};
+ghost use Rattle.std.specs.Prelude.{◌≡◌, ◌≤◌, ◌⊎◌, ℕ, List, [], false, IfOk, IfErr, IfSome, map, string_bytes};
 ghost use Rattle.nn_device.specs.Device.{Took, FailedToWrite};
 ghost use Rattle.clap.specs.Words.{kind_of};
 ghost use Rattle.nn_run.specs.Run.{error_of};
@@ -157,7 +157,7 @@ fn run_service<R: Read, W: Write>(
     output: &mut Writer<W>,
 ) -> RunEnd
     ensures service { EndsService options.now input.old input.new output.old output.new result.status }
-    ensures silent { result.fault ≡ None }
+    ensures silent { error_of result.fault ≡ [] }
 {
     let asked = LiveOptions {
         settings: options.settings,
@@ -191,7 +191,8 @@ fn run_plain<R: Read, W: Write>(
 
 // How a run ends of whose output not all was written.
 fn unwritten() -> RunEnd
-    ensures { result ≡ record { status = 1; fault = None } }
+    ensures status { result.status ≡ 1 }
+    ensures silent { error_of result.fault ≡ [] }
 {
     let fault = None;
     RunEnd {

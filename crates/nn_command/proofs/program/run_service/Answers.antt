@@ -5,4 +5,4 @@ pub returns-in-Ok-clause-service : goal.returns-in-Ok-clause-service
 returns-in-Ok-clause-service g c = (_, record { asked = refl; from_image = refl }, inl c.in-Ok.ensures.written)
 
 pub returns-in-Err-clause-service : goal.returns-in-Err-clause-service
-returns-in-Err-clause-service g c = (_, record { asked = refl; from_image = refl }, inr (_, c.in-Err.ensures.prefix, refl))
+returns-in-Err-clause-service g c = (_, record { asked = refl; from_image = refl }, inr (_, c.in-Err.ensures.prefix, c.unwritten.ensures.status))

@@ -13,4 +13,4 @@ returns-in-Some-clause-some g c =
 
 pub returns-clause-some : goal.returns-clause-some
 returns-clause-some g c =
-    rw c.in-Ok.is (run_serves (map string_bytes c.in-Ok.arguments.now) c.in-Ok-parse.request _ _ c.in_default.not-Some c.in-Ok-parse.ensures.ok c.in-Ok-parse.ensures.asked c.in-Ok-parse.ensures.clear (_, (c.run_as_asked-run_end.ensures, c.tell_beside.ensures)))
+    rw c.in-Ok.is (run_serves (map string_bytes c.in-Ok.arguments.now) c.in-Ok-parse.request _ _ c.in_default.not-Some c.in-Ok-parse.ensures.ok c.in-Ok-parse.ensures.asked c.in-Ok-parse.ensures.clear (_, c.run_as_asked-run_end.ensures, c.tell_beside.ensures))

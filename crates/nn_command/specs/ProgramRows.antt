@@ -355,7 +355,7 @@ run_over_nothing = record {
   output = nothing;
   output' = writer printed_for_nothing.text false;
   errors = nothing;
-  errors' = nothing;
+  errors' = writer printed_for_nothing.error false;
 }
 
 serves_a_run : Serves program_alone run_over_nothing printed_for_nothing.status
@@ -365,7 +365,7 @@ serves_a_run = inl (
   usual_asked,
   refl,
   (
-    [],
+    printed_for_nothing.error,
     (
       inl (record {
         output = printed_for_nothing;
@@ -376,7 +376,7 @@ serves_a_run = inl (
       }),
       omega arith,
     ),
-    nothing_beside,
+    record { wrote = inl (record { bytes = refl; counted = omega arith; unfailed = refl }); silent = λ none. ap (λ t. writer t false) none },
   ),
 )
 

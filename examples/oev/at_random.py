@@ -19,7 +19,7 @@ class Client:
         """One thing that can be done now."""
         often = (self.make, self.write, self.end, self.rename)
         steps = (*often, *often, self.write, self.append, self.delete, self.replicate, self.touch, self.recover)
-        while not self.chance.choice((*steps, self.cut, self.join, self.snapshot))():
+        while not self.chance.choice((*steps, self.cut, self.join, self.snapshot, self.own, self.own, self.allow, self.mark, self.bound))():
             pass
 
     def pick(self, wanted):
@@ -105,6 +105,48 @@ class Client:
 
     def touch(self):
         self.cluster.touch(self.pick(lambda node: True))
+        return True
+
+    def own(self):
+        """An owner, a group or a mode."""
+        node, chance = self.pick(lambda node: True), self.chance
+        if chance.random() < 0.5:
+            self.cluster.set_permissions(node, chance.randrange(0o2000))
+        else:
+            self.cluster.set_owner(node, chance.choice((None, "ada", "b\\c", "é")), chance.choice((None, "staff")))
+        return True
+
+    def allow(self):
+        """An ACL, or none any more."""
+        node, chance = self.pick(lambda node: True), self.chance
+        permissions = ["rwx", "r-x", "r--", "---"]
+        if chance.random() < 0.3:
+            self.cluster.remove_acl(node)
+            return True
+        users = [(name, chance.choice(permissions)) for name in ("ada", "bob")[: chance.randrange(3)]]
+        default = [("DEFAULT", "USER", "", "rwx"), ("DEFAULT", "GROUP", "", "r-x"), ("DEFAULT", "OTHER", "", "---")] * (isinstance(node, Directory) and chance.random() < 0.4)
+        self.cluster.set_acl(node, *(chance.choice(permissions) for _ in range(3)), users, chance.choice(permissions), default)
+        return True
+
+    def mark(self):
+        """An extended attribute, or a storage policy."""
+        node, chance = self.pick(lambda node: True), self.chance
+        if chance.random() < 0.3:
+            self.cluster.set_policy(node, chance.choice((0, 2, 12)))
+        elif chance.random() < 0.3:
+            self.cluster.remove_xattr(node, "USER", chance.choice("xy"))
+        else:
+            self.cluster.set_xattr(node, "USER", chance.choice("xy"), chance.choice((b"", b"plain", b"\0\xff", b"a\rb")))
+        return True
+
+    def bound(self):
+        """A quota."""
+        directory, chance = self.pick(lambda node: isinstance(node, Directory)), self.chance
+        is_root = directory.parent is None
+        if chance.random() < 0.3:
+            self.cluster.set_quota_by_type(directory, chance.choice(("SSD", "DISK")), chance.choice((-1, 7)))
+        else:
+            self.cluster.set_quota(directory, chance.choice((5, 2**63 - 1) if is_root else (-1, 5, 2**63 - 1)), chance.choice((-1, 9)))
         return True
 
     def cut(self):

@@ -15,6 +15,7 @@ import time
 from types import SimpleNamespace
 
 from at_random import cluster_at_random
+from attribute_cases import check_attributes
 from audit_damages import BLOCKS, DAMAGES, HARMLESS, LOST, SPARE, in_inode, replaced, several, story
 from audit_forms import FORMS, long_in_chain, many_replications, marks_in_chain, moved_down, own_settings_in_chain
 from auditing import Audit
@@ -103,9 +104,9 @@ def check_same(trials):
     between = trials.image(trials.first), trials.image(trials.last)
     output = trials.audited("the story", 0, "alike: ", "--from", between[0], "--to", between[1], trials.whole)
     makes = f"the image of TXID {trials.last} is what the log makes of the image of TXID {trials.first}\n"
-    same = "the same in names, kinds, replication, blocks, open files; not compared: 43 items of 15 kinds\n"
+    same = "the same in names, kinds, replication, blocks, open files, attributes; not compared: 26 items of 13 kinds\n"
     trials.check.holds("the verdict on the story", output.endswith(makes + same), output)
-    members = "4 (INODEID 1, NEWBLOCK 2, TIMESTAMP 1)"
+    members = "3 (NEWBLOCK 2, TIMESTAMP 1)"
     for said in ("inode/mtime 10", "1 (OP_TIMES 1)", members, "files whose blocks can't be held here: 1\n"):
         trials.check.contains("what is not compared", output, said)
 
@@ -141,10 +142,10 @@ def check_damages(trials):
 def check_scope(trials):
     """The last line says what was compared in this run, and `--json` prints the same as one object."""
     for name, policy, compared in (
-        ("a file", 0, "names, kinds, replication, blocks, open files"),
-        ("a striped file", 1, "names, kinds"),
-        ("a file without blocks", None, "names, kinds, replication, open files"),
-        ("no path", ..., "the last id and stamp"),
+        ("a file", 0, "names, kinds, replication, blocks, open files, attributes"),
+        ("a striped file", 1, "names, kinds, attributes"),
+        ("a file without blocks", None, "names, kinds, replication, open files, attributes"),
+        ("no path", ..., "attributes"),
     ):
         cluster = Cluster()
         cluster.begin_segment()
@@ -472,7 +473,7 @@ def check_steps(trials):
 
 def audit_in_process(trials, first, last):
     """An audit of two images of the story, in this process."""
-    options = SimpleNamespace(start=first, to=last, files=[trials.whole], state=None, most=20, json=False, quiet=True, progress=None)
+    options = SimpleNamespace(start=first, to=last, files=[trials.whole], state=None, most=20, json=False, quiet=True, progress=None, strict=False)
     return Audit(Program(trials.check.program), tempfile.mkdtemp(dir=trials.check.folder), options)
 
 
@@ -648,7 +649,7 @@ def at_once(check, program, cluster, first, last, name, state=None):
             file.write(text)
     start = None if state and os.path.exists(state) else names[0]
     options = SimpleNamespace(start=start, to=names[1], files=names[2:], state=state, most=20)
-    options.__dict__.update(json=False, quiet=True, progress=None)
+    options.__dict__.update(json=False, quiet=True, progress=None, strict=False)
     output = io.StringIO()
     with contextlib.redirect_stdout(output), tempfile.TemporaryDirectory() as folder:
         try:
@@ -680,4 +681,5 @@ PARTS = (
     check_failing,
     check_chain,
     check_random,
+    check_attributes,
 )

@@ -49,7 +49,8 @@ NAMES = {"PATH", "SRC", "DST", "TRG", "SOURCES"}
 
 # What is taken of the records that are kept.
 NUMBERS = {"TXID", "BLOCK", "BLOCK_ID", "ERASURE_CODING_POLICY_ID", "GENSTAMPV2", "NEWLENGTH", "REPLICATION"}
-TAKEN = NAMES | NUMBERS | {"OPTIONS", "OVERWRITE"}
+ATTRIBUTES = {"BLOCKSIZE", "ENTRY", "INODEID", "PERMISSION_STATUS", "XATTR"}
+TAKEN = NAMES | NUMBERS | ATTRIBUTES | {"OPTIONS", "OVERWRITE"}
 
 # The edits that move or remove what lies below a path.
 MOVING = {"OP_DELETE", "OP_RENAME"}
@@ -65,8 +66,11 @@ CARRIAGE_RETURN = re.compile(r"(?:\r|\\000[dD];)\n?")
 class Audited:
     """Makes edits of records, and keeps what is to be said of them."""
 
-    def __init__(self, last_gen, table, deep=()):
+    def __init__(self, last_gen, table, deep=(), followed=None):
         self.table = table
+        # What follows inodes and their attributes, if they are compared, and the record that it follows.
+        self.followed = followed
+        self.record = None
         # The directories below which there may be something of too many names, which is not held.
         self.deep = set(deep)
         # Whether the table got a name of a path that is too long. Then what is made by it is of no use.
@@ -82,9 +86,12 @@ class Audited:
 
     def edits_of(self, record, tree):
         """The edits that a record stands for. There are none where it is left out."""
-        record = self.as_held(record)
+        self.record = record = self.as_held(record)
         if record is None or self.has_grown:
+            self.record = None
             return []
+        if self.followed is not None:
+            self.followed.begin(record)
         made = self.numbered(self.converted(record, tree))
         if self.deep:
             self.move_deep(made)
@@ -93,6 +100,10 @@ class Audited:
             for name in record.data.shape.of(names_passed):
                 self.passed[name] += 1
         return made
+
+    def behind(self):
+        """What is done once the tree has followed the record. Answers whether it sets attributes."""
+        return self.followed is not None and self.record is not None and self.followed.end(self.record)
 
     def converted(self, record, tree):
         if record.opcode in OF_FILES:

@@ -15,6 +15,8 @@ from chain import Chain, Keeping, Link
 from checkpoint import name_section
 from comparison import Differences, compare
 from formats import PATH_NAMES, Refused
+from inodes import NONE
+from inodes_compared import InodesCompared, Ours, in_path_order
 from overlap import opened
 from progress import Progress
 from proved import chunks_of
@@ -48,6 +50,9 @@ class Audit:
         self.has_later_stamp = False
         # The two runs of the program: it has what the log makes in the one, and the second image in the other.
         self.ours = self.theirs = None
+        # The inodes that the log makes, and what was found of both images' inodes.
+        self.our_inodes = self.inodes = self.tree = None
+        self.is_whole = False
 
     def run(self):
         """Tells what is found. Answers whether the second image is what the log makes of the first."""
@@ -77,6 +82,7 @@ class Audit:
             self.differences.tell("inconsistent", contradiction)
         link = Link(start.link.first, facts.txid, start.link.audits + 1, start.link.cluster, in_order(log.bare), **self.table.members())
         if applies:
+            self.compare_inodes(log, contradiction is None)
             alike = self.compare(facts, given, link, contradiction is None)
         if alike is not None and facts.low_inode is not None:
             self.differences.tell("inconsistent", facts.low_inode)
@@ -206,7 +212,7 @@ class Audit:
 
         Answers how many directories, files and blocks are alike, and tells what differs, if the second image is whole.
         """
-        keeping = Keeping(self.chain, link) if self.chain else None
+        keeping = self.keeping(link) if self.chain else None
         try:
             task = self.progress.task("comparing the images", given.size)
             ours = self.pieces_of_ours(keeping)
@@ -225,10 +231,32 @@ class Audit:
                     pass
             if keeping:
                 keeping.end()
+            if self.inodes is not None:
+                self.inodes.tell(self.differences)
             return alike
         finally:
             if keeping:
                 keeping.drop()
+
+    def compare_inodes(self, log, is_whole):
+        """Compares where inodes are, and their attributes, if both are known."""
+        self.tree, self.is_whole = log.tree, is_whole
+        self.our_inodes = Ours(log.followed, self.table) if log.followed else None
+        if self.our_inodes is None:
+            self.notes.append(f"{self.chain.name} has no attributes yet, which were not compared: the next one has them")
+        elif is_whole:
+            self.inodes = InodesCompared(self.our_inodes, self.second, self.chain is not None, self.options.strict)
+        else:
+            self.our_inodes.look(lambda paths: [NONE] * len(paths))
+
+    def keeping(self, link):
+        """What keeps the state of a chain, with the inodes that the log makes, or else those of the second image."""
+        columns, sets = ((), ()), ()
+        if self.our_inodes is not None:
+            columns, sets = self.our_inodes.columns(), self.our_inodes.followed.sets.all
+        elif self.is_whole:
+            *columns, sets = self.second.columns_at([path for path, _ in in_path_order(self.tree, self.table)])
+        return Keeping(self.chain, link._replace(inodes=len(columns[0]), sets=sets), columns)
 
     def pieces_of_ours(self, keeping):
         """What answers the next lines of what the log makes, which are kept."""
@@ -262,6 +290,7 @@ class Audit:
         bare = log.bare.keys() | given.bare_kinds.keys()
         for path, count in given.too_deep.items():
             self.notes.append(f"not compared, below {self.table.in_words(path)}: {count:,} paths of too many names")
+        found = self.inodes
         others = {
             "inodes that only snapshots hold": given.only_in_snapshots,
             "files whose blocks can't be held here": len(bare),
@@ -275,8 +304,12 @@ class Audit:
             "of the image": facts.passed,
             "records of the log": log.left_out,
             "members of other records": log.edits.passed,
+            "attributes that no record tells": found.open_keys if found else {},
         }
-        return Scope(alike, len(bare), left, Counter({what: int(count) for what, count in others.items() if count}))
+        if found and found.trusted:
+            self.notes.append(f"taken on trust into the chain: attributes of {found.trusted:,} inodes, which no record tells")
+        others = Counter({what: int(count) for what, count in others.items() if count})
+        return Scope(alike, len(bare), found.count if found else 0, left, others)
 
 
 def in_order(kinds):

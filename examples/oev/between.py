@@ -7,6 +7,7 @@ from audited import TAKEN, Audited
 from bare import bare_paths
 from conversion import Conversion
 from formats import DoesNotApply, Refused
+from inode_ids import Followed
 from log import Log, Map, Whole, pairs_in
 from overlap import merged
 from places import taken
@@ -24,15 +25,16 @@ class Converted:
         self.name = os.path.join(folder, "lines")
         self.map = os.path.join(folder, "map")
         header = start.header()
-        tree = start.tree()
-        self.edits = Audited(header["last_gen"], table, start.deep)
+        self.tree = tree = start.tree()
+        self.followed = Followed(tree, start.sets) if start.sets else None
+        self.edits = Audited(header["last_gen"], table, start.deep, self.followed)
         # How the log can't be followed, or None.
         self.fault = None
         with open(self.name, "wb") as lines, open(self.map, "w") as numbers:
             # The program's number of a transaction is not its TXID, once the log has been followed.
             log = Log(Whole(lines, SEGMENT_BYTES), header["txid"], 2, Map(numbers))
             ways = ShortWays(self.edits)
-            conversion = Conversion(tree, log, (), self.edits.edits_of, ways.take)
+            conversion = Conversion(tree, log, (), self.edits.edits_of, ways.take, self.edits.behind)
             conversion.begin_after(start.link.txid)
             try:
                 take(conversion, files, until, opened)
@@ -40,7 +42,6 @@ class Converted:
                 self.fault = table.in_words(str(found))
         if self.edits.has_grown:
             raise Grew
-        # The tree takes much memory, and is let go here.
         self.bare = bare_paths(tree)
         self.edits.passed += ways.passed(TAKEN)
         self.left_out = conversion.left_out

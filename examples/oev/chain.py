@@ -9,17 +9,20 @@ import hashlib
 import json
 import os
 import re
+from array import array
 from typing import NamedTuple
 
 from bare import BLOCKS_OF, UNKNOWN
 from formats import Refused, to_json
 
 STATE = "state"
-FORM = "hdfs-audit-2"
-# The form before, whose first line has no sum, and no kinds of bare files.
-OLD_FORM = "hdfs-audit"
+FORM = "hdfs-audit-3"
+# The forms before: one without inodes, and one whose first line has no sum either, and no kinds of bare files.
+FORM_WITHOUT_INODES, OLD_FORM = "hdfs-audit-2", "hdfs-audit"
 REPLICATION = re.compile(rb'"replication":([0-9]{1,3})\b')
 CHUNK_BYTES = 1 << 20
+# An inode has its id and the number of its set.
+INODE_BYTES = array("q").itemsize + array("I").itemsize
 
 
 class Link(NamedTuple):
@@ -36,6 +39,9 @@ class Link(NamedTuple):
     # What a table has to begin with.
     names: list = ()
     replications: dict = ()
+    # How many inodes it has behind its first line, and the sets of attributes that they have, by their numbers.
+    inodes: int = 0
+    sets: list = ()
     # Whether it was read from a state of the form before.
     is_old: bool = False
 
@@ -85,8 +91,8 @@ class Chain:
             link = link_of(form, members)
         except (ValueError, TypeError, KeyError, AttributeError):
             raise Refused(f"{self.name} is no state of an audit") from None
-        place = file.tell()
-        if not link.is_old and told != sum_of(link, file):
+        place = file.tell() + link.inodes * INODE_BYTES
+        if not link.is_old and told != sum_of(form, link, file):
             advice = "bring it back from a copy, or begin another chain in an empty folder"
             raise Refused(f"{self.name} is damaged, since its SHA-256 is not that of its first line: {advice}")
         if link.is_old:
@@ -99,7 +105,7 @@ class Chain:
 class Keeping:
     """An image that a chain is given, piece by piece, with the link that it is for. Until the end all stays as it was."""
 
-    def __init__(self, chain, link):
+    def __init__(self, chain, link, inodes):
         self.chain = chain
         self.link = link
         self.name = f"{chain.name}.new"
@@ -107,6 +113,8 @@ class Keeping:
         # As many characters as the sum will have.
         self.file.write(first_line(link, "0" * 64))
         self.sum = hashlib.sha256(to_json(link.members()).encode())
+        for column in inodes:
+            self.write(bytes(column))
 
     def write(self, piece):
         self.sum.update(piece)
@@ -136,14 +144,17 @@ def link_of(form, members):
     """The link that the first line of a state has."""
     if form == OLD_FORM:
         return Link(**{**members, "bare": dict.fromkeys(members["bare"], UNKNOWN.kind)}, is_old=True)
-    if form != FORM or not set(members["bare"].values()) <= BLOCKS_OF.keys():
+    if form not in (FORM, FORM_WITHOUT_INODES) or not set(members["bare"].values()) <= BLOCKS_OF.keys():
         raise ValueError
     return Link(**members)
 
 
-def sum_of(link, image):
-    """The SHA-256 of a link and of its image, from where a file is read to its end."""
-    found = hashlib.sha256(to_json(link.members()).encode())
-    while chunk := image.read(CHUNK_BYTES):
+def sum_of(form, link, rest):
+    """The SHA-256 of a link and of what it stands before, from where a file is read to its end."""
+    members = link.members()
+    if form == FORM_WITHOUT_INODES:
+        members = {name: value for name, value in members.items() if name not in ("inodes", "sets")}
+    found = hashlib.sha256(to_json(members).encode())
+    while chunk := rest.read(CHUNK_BYTES):
         found.update(chunk)
     return found.hexdigest()

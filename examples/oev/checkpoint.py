@@ -7,6 +7,7 @@ import os
 import stat
 from array import array
 
+from attributes import OF_INODE, Sets, of_inode
 from bare import OLD, STRIPED, bare_file, has_old_block, is_bare, kind_in_image, word_of
 from formats import FIRST_BLOCK_ID, FIRST_GEN, PATH_BYTES, Refused
 from dumps import elements
@@ -14,13 +15,13 @@ from fsimage import NUMBERS, SECTION_BYTES, Dump, blocks_in, blocks_of, image_li
 from inodes import NONE, Lists
 from loops import row_in_loop
 from mentions import REFERENCE, Mentions
-from shapes import children_of, named
+from shapes import children_of, named, texts_in
 from walk import Inconsistent
 
 # What is taken of each element.
 TAKEN = {
     "NameSection": {"genstampV1Limit", "genstampV2", "lastAllocatedBlockId", "namespaceId", "txid"},
-    "inode": {"blocks", "file-under-construction", "id", "name", "replication", "type"},
+    "inode": {"blockType", "blocks", "file-under-construction", "id", "name", "replication", *OF_INODE},
     "blocks": {"block"},
     "block": {"genstamp", "id", "numBytes"},
     "file-under-construction": set(),
@@ -53,6 +54,7 @@ class Checkpoint(Dump):
         self.with_line_feeds = 0
         # How many paths lie below those of as many names as there may be. They are left out.
         self.too_deep = {}
+        self.sets = Sets()
 
     def readers(self):
         return {**super().readers(), **self.mentions.readers(), REFERENCE: self.reference}
@@ -92,6 +94,13 @@ class Checkpoint(Dump):
         if is_striped(inode):
             return bare_file(STRIPED.kind)
         return bare_file(OLD.kind) if has_old_block(blocks, self.first_gen) else super().file_with_blocks(inode)
+
+    def set_of(self, element):
+        places = element.shape.of(attribute_places)
+        return self.sets.kept((element.shape, *map(element.texts.__getitem__, places)), lambda: of_inode(element))
+
+    def sets_of(self, columns):
+        return array("I", map(self.sets.of_columns.__getitem__, columns.attributes))
 
     def snapshots(self, count):
         self.snapshots_count = count.value()
@@ -149,8 +158,11 @@ class Checkpoint(Dump):
 
     def all_below(self, row):
         """The rows of all that a directory lists."""
-        below = [self.child_rows[at] for at in self.children.places(row)]
-        return below + [self.reference_rows[place] for place in self.references_of(row)]
+        return [*self.rows_in(row), *(self.reference_rows[place] for place in self.references_of(row))]
+
+    def live_rows(self):
+        """Whether the root leads to each row."""
+        return bytearray(self.is_taken)
 
     def row(self, path, file):
         told = self.told_kinds.get(path)
@@ -175,12 +187,6 @@ class Checkpoint(Dump):
         """All lines are made anew."""
         self.bare_kinds, self.too_deep = {}, {}
         self.told_folders = {path.rpartition("/")[0] for path in self.told_kinds}
-
-    def let_go(self):
-        """Keeps what the files are, and nothing of their names and places."""
-        self.children = self.referring = self.child_rows = self.references = self.mentions = None
-        self.is_taken = self.in_order = None
-        self.inodes.let_go()
 
     # ---- Names that the program has otherwise.
 
@@ -221,6 +227,11 @@ class Checkpoint(Dump):
 def keys_beside(shape):
     """The keys of what is not taken of an element of this shape."""
     return [f"{shape.name}/{child.name}" for child in shape.of(children_of) if child.name not in TAKEN[shape.name]]
+
+
+def attribute_places(shape):
+    """The places of the texts of an inode's attributes, also of those in elements in them."""
+    return [place for name in OF_INODE for child in shape.of(named).get(name, ()) for place in range(child.first, child.first + max(1, texts_in(child)))]
 
 
 def keys_in_file(shape):

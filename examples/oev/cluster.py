@@ -21,6 +21,10 @@ class Inode:
         # Whether a snapshot has it, and whether it has it under another name, so that its directory refers to it.
         self.in_snapshot = False
         self.is_referred = False
+        self.owner, self.group, self.mode = "hdfs", "supergroup", 0o755
+        # The entries of its ACL that are no bits of its mode, and its extended attributes, each by its namespace and name.
+        self.acl = []
+        self.xattrs = {}
 
     def path(self):
         names, node = [], self
@@ -34,6 +38,7 @@ class Directory(Inode):
     def __init__(self, *inode):
         super().__init__(*inode)
         self.children = {}
+        self.quotas = {}
 
 
 class File(Inode):
@@ -42,6 +47,7 @@ class File(Inode):
         self.replication = 3
         self.closed = False
         self.policy = 0
+        self.block_size, self.storage_policy = FULL, 0
         # Each block is a list of its id, stamp and length.
         self.blocks = []
         # The stamp of a recovery that was begun, and the length that it will give the last block.
@@ -102,7 +108,7 @@ class Cluster:
 
     def make_directory(self, parent, name):
         node = Directory(self.new_id(), name, parent)
-        self.log_path("OP_MKDIR", node, member("TIMESTAMP", 1), member("INODEID", node.id))
+        self.log_path("OP_MKDIR", node, member("TIMESTAMP", 1), member("INODEID", node.id), status_member(node))
         parent.children[name] = node
         return node
 
@@ -117,7 +123,8 @@ class Cluster:
     def create(self, parent, name, replication=3, policy=0):
         node = File(self.new_id(), name, parent)
         node.replication, node.policy = replication, policy
-        members = member("REPLICATION", 0 if policy else replication), member("OVERWRITE", "true")
+        members = member("INODEID", node.id), member("REPLICATION", 0 if policy else replication), member("BLOCKSIZE", node.block_size)
+        members = *members, member("OVERWRITE", "true"), status_member(node)
         self.log_path("OP_ADD", node, *members, member("ERASURE_CODING_POLICY_ID", policy))
         if name in parent.children:
             self.forget(parent.children[name])
@@ -244,6 +251,65 @@ class Cluster:
         self.log_path("OP_SET_REPLICATION", file, member("REPLICATION", replication))
         file.replication = replication
 
+    # ---- Attributes.
+
+    def log_source(self, opcode, node, *members):
+        self.log(opcode, named("SRC", node.path() or "/"), *members)
+
+    def set_owner(self, node, owner=None, group=None):
+        members = [member(name, escaped(text)) for name, text in (("USERNAME", owner), ("GROUPNAME", group)) if text is not None]
+        self.log_source("OP_SET_OWNER", node, *members)
+        node.owner, node.group = owner or node.owner, group or node.group
+
+    def set_permissions(self, node, mode):
+        self.log_source("OP_SET_PERMISSIONS", node, member("MODE", mode))
+        node.mode = mode
+
+    def set_acl(self, node, user, group, other, named_users=(), mask="rwx", default=()):
+        """An ACL whose mask stands in the group's bits. With neither named users nor defaults there is none any more."""
+        access = [("ACCESS", "USER", "", user), *(("ACCESS", "USER", *one) for one in named_users), ("ACCESS", "GROUP", "", group)]
+        access += [("ACCESS", "MASK", "", mask)] * bool(named_users) + [("ACCESS", "OTHER", "", other)]
+        self.log_source("OP_SET_ACL", node, *map(entry_member, [*access, *default]))
+        middle = mask if named_users else group
+        node.mode = node.mode & 0o1000 | int("".join("01"[letter != "-"] for letter in user + middle + other), 2)
+        kept = [entry for entry in access if entry[2]] + [entry for entry in access if entry[1] == "GROUP"] if named_users else []
+        node.acl = [*kept, *default]
+
+    def remove_acl(self, node):
+        self.log_source("OP_SET_ACL", node)
+        for entry in node.acl:
+            if entry[:3] == ("ACCESS", "GROUP", ""):
+                node.mode = node.mode & ~0o70 | int("".join("01"[letter != "-"] for letter in entry[3]), 2) << 3
+        node.acl = []
+
+    def set_xattr(self, node, space, name, value):
+        self.log_source("OP_SET_XATTR", node, xattr_member(space, name, value))
+        node.xattrs[space, name] = value
+
+    def remove_xattr(self, node, space, name):
+        self.log_source("OP_REMOVE_XATTR", node, xattr_member(space, name, b""))
+        node.xattrs.pop((space, name), None)
+
+    def set_quota(self, directory, names, space):
+        """A quota of 2^63 - 1 keeps what there is, and -1 takes it away."""
+        self.log_source("OP_SET_QUOTA", directory, member("NSQUOTA", names), member("DSQUOTA", space))
+        for key, quota in (("nsquota", names), ("dsquota", space)):
+            if quota != 2**63 - 1:
+                directory.quotas[key] = quota
+
+    def set_quota_by_type(self, directory, kind, space):
+        self.log_source("OP_SET_QUOTA_BY_STORAGETYPE", directory, member("STORAGETYPE", kind), member("DSQUOTA", space))
+        directory.quotas[kind] = space
+
+    def set_policy(self, node, policy):
+        self.log_path("OP_SET_STORAGE_POLICY", node, member("POLICYID", policy))
+        if isinstance(node, File):
+            node.storage_policy = policy
+        elif policy:
+            node.xattrs["SYSTEM", "hsm.block.storage.policy.id"] = bytes((policy,))
+        else:
+            node.xattrs.pop(("SYSTEM", "hsm.block.storage.policy.id"), None)
+
     def create_snapshot(self, directory):
         self.log("OP_ALLOW_SNAPSHOT", named("SNAPSHOTROOT", directory.path()))
         self.log("OP_CREATE_SNAPSHOT", named("SNAPSHOTROOT", directory.path()), member("SNAPSHOTNAME", "s"))
@@ -320,17 +386,53 @@ def block_member(block):
     return member("BLOCK", member("BLOCK_ID", block_id) + member("NUM_BYTES", length) + member("GENSTAMP", stamp))
 
 
+def status_member(node):
+    names = member("USERNAME", escaped(node.owner)) + member("GROUPNAME", escaped(node.group))
+    return member("PERMISSION_STATUS", names + member("MODE", node.mode))
+
+
+def entry_member(entry):
+    scope, kind, name, permission = entry
+    named_entry = member("NAME", escaped(name)) if name else ""
+    return member("ENTRY", member("SCOPE", scope) + member("TYPE", kind) + named_entry + member("PERM", permission))
+
+
+def words_of_entry(entry):
+    scope, kind, name, permission = entry
+    return f"{'default:' * (scope == 'DEFAULT')}{kind.lower()}:{name}:{permission}"
+
+
+def xattr_member(space, name, value):
+    members = member("NAMESPACE", space) + member("NAME", escaped(name))
+    return member("XATTR", members + (member("VALUE", f"0x{value.hex()}") if value else ""))
+
+
+def xattr_in_image(pair):
+    """An image has a text where the value is one, and else hexadecimal digits."""
+    (space, name), value = pair
+    is_text = value.isascii() and value.decode("ascii").isprintable()
+    found = member("val", escaped(value.decode())) if is_text else member("valHex", value.hex())
+    return member("xattr", member("ns", space) + member("name", escaped(name)) + (found if value else ""))
+
+
 def inode_member(node):
     head = member("id", node.id) + member("type", type(node).__name__.upper()) + member("name", escaped(node.name))
-    head += member("mtime", 1) + member("permission", "hdfs:supergroup:0755")
+    more = member("permission", f"{escaped(node.owner)}:{escaped(node.group)}:{node.mode:04o}")
+    more += member("xattrs", "".join(map(xattr_in_image, node.xattrs.items()))) if node.xattrs else ""
+    more += member("acls", "".join(member("acl", escaped(words_of_entry(entry))) for entry in node.acl)) if node.acl else ""
     if isinstance(node, Directory):
-        return member("inode", head + member("nsquota", -1) + member("dsquota", -1))
-    members = head + member("replication", 0 if node.policy else node.replication)
+        quotas = "".join(member(key, node.quotas.get(key, -1)) for key in ("nsquota", "dsquota"))
+        types = ((kind, space) for kind, space in node.quotas.items() if kind.isupper() and space != -1)
+        quotas += "".join(member("typeQuota", member("type", kind) + member("quota", space)) for kind, space in types)
+        return member("inode", head + member("mtime", 1) + more + quotas)
+    members = head + member("replication", 0 if node.policy else node.replication) + member("mtime", 1)
+    members += member("preferredBlockSize", node.block_size) + more
     blocks = "".join(
         member("block", member("id", block_id) + member("genstamp", stamp) + member("numBytes", length))
         for block_id, stamp, length in node.blocks
     )
     members += member("blocks", blocks) if blocks else ""
+    members += member("storagePolicyId", node.storage_policy)
     if node.policy:
         members += member("erasureCodingPolicyId", node.policy) + member("blockType", "STRIPED")
     if not node.closed:

@@ -23,9 +23,11 @@ class Conversion:
     # Whether records of common forms are read by regular expressions, and not by expat, where a short way takes them.
     is_quick = True
 
-    def __init__(self, tree, log, skipped_opcodes, edits_of=edits_of, take_common=None):
+    def __init__(self, tree, log, skipped_opcodes, edits_of=edits_of, take_common=None, behind=None):
         self.tree = tree
         self.edits_of = edits_of
+        # What is done once the tree has followed a record. It answers whether that was more than its edits say.
+        self.behind = behind
         # What does at once what becomes of a record of a common form, and answers whether it did.
         self.take_common = take_common
         self.log = log
@@ -83,7 +85,8 @@ class Conversion:
         edits = self.edits_of(record, self.tree)
         if not edits:
             self.log.leave_out(record.txid)
-            self.left_out[record.opcode] += 1
+            is_taken = self.behind is not None and self.behind()
+            (self.kept if is_taken else self.left_out)[record.opcode] += 1
             return
         if self.may_be_inside and edits != start_mark():
             self.log.give(start_mark())
@@ -91,6 +94,8 @@ class Conversion:
         self.log.write(edits, record.txid)
         for edit in edits:
             self.tree.apply(edit)
+        if self.behind is not None:
+            self.behind()
         self.kept[record.opcode] += 1
 
     def finish(self):

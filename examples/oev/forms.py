@@ -15,7 +15,8 @@ from reading import Repeats, parts_of, places_of_texts
 
 # What is taken of the records of an opcode. Of every other one it is its paths, so that they are seen to be plain.
 WANTED = {
-    "OP_ADD": ("PATH", "REPLICATION", "ERASURE_CODING_POLICY_ID"),
+    "OP_ADD": ("PATH", "REPLICATION", "ERASURE_CODING_POLICY_ID", "INODEID", "USERNAME", "GROUPNAME", "MODE", "BLOCKSIZE"),
+    "OP_MKDIR": ("PATH", "INODEID", "USERNAME", "GROUPNAME", "MODE"),
     "OP_SET_REPLICATION": ("PATH", "REPLICATION"),
     "OP_ALLOCATE_BLOCK_ID": ("BLOCK_ID",),
     "OP_SET_GENSTAMP_V2": ("GENSTAMPV2",),
@@ -26,7 +27,15 @@ PATHS = ("PATH", "SRC", "DST", "TRG")
 
 # A path as most are: its names are no longer than a name may be, and JSON has them as they are.
 PATH = rb"((?:/(?!\.\.?[/<])[!#-%'-.0-9;=?-\[\]-~ ]{1,255})+)"
-PATTERNS = {**dict.fromkeys(PATHS, PATH), "OPTIONS": rb"([A-Z_|]*)"}
+# A text without escapes.
+PLAIN = rb"([!-%'-;=?-\[\]-~ ]*)"
+PATTERNS = {**dict.fromkeys(PATHS, PATH), "OPTIONS": rb"([A-Z_|]*)", "USERNAME": PLAIN, "GROUPNAME": PLAIN}
+# Where wanted texts stand.
+DATA = ["RECORD", "DATA"]
+STATUS = [*DATA, "PERMISSION_STATUS"]
+OF_STATUS = {"USERNAME", "GROUPNAME", "MODE"}
+# What is read as expat reads it, if it is asked for.
+OTHERS = {"ENTRY", "XATTR"}
 BLANKS = rb"[\n ]*"
 OPCODE = "OP_[A-Z0-9_]+"
 HEAD = re.compile(rb"[\n ]*<RECORD>[\n ]*<OPCODE>(%b)</OPCODE>" % OPCODE.encode())
@@ -49,11 +58,12 @@ class Form:
         # The members that are passed over, and those in the groups of the expression.
         self.names = []
         self.groups = []
-        # The order of what a block has, if there are blocks.
+        # The order of what a block has, if there are blocks; and whether there are members of which more is asked.
         self.block = None
         self.match = re.compile(b"".join(self.parts_of_pattern(tags))).match
         if "TXID" not in self.groups:
             raise NoForm
+        self.has_others = not OTHERS.isdisjoint(self.names)
         places = [self.groups.index(name) + 1 if name in self.groups else 0 for name in ("TXID", *WANTED.get(opcode, PATHS))]
         # None stands before the groups, and is what is not there.
         self.pick = itemgetter(*places)
@@ -64,9 +74,9 @@ class Form:
         inside, at = [], 0
         while at < len(tags):
             tag = tags[at]
-            if inside == ["RECORD", "DATA"] and not tag.startswith("/"):
+            if inside == DATA and not tag.startswith("/"):
                 self.names.append(tag.rstrip("/"))
-            if inside == ["RECORD", "DATA"] and tag == "BLOCK":
+            if inside == DATA and tag == "BLOCK":
                 yield self.blocks(tags, at)
                 while tags[at : at + 1] == ["BLOCK"]:
                     at += BLOCK_TAGS
@@ -85,7 +95,7 @@ class Form:
         *above, name = inside
         if above == ["RECORD"] and name == "OPCODE":
             return self.opcode.encode()
-        if above != ["RECORD", "DATA"] or name not in ("TXID", *WANTED.get(self.opcode, PATHS), *PATHS):
+        if above != (STATUS if name in OF_STATUS else DATA) or name not in ("TXID", *WANTED.get(self.opcode, PATHS), *PATHS):
             return TEXT
         if name in self.groups:
             raise NoForm

@@ -157,7 +157,7 @@ class Dump(Walk):
         if numbers is None:
             return False
         if form.kind == "DIRECTORY":
-            self.inodes.add(numbers[0], texts[form.name].encode(), DIRECTORY)
+            self.inodes.add(numbers[0], texts[form.name].encode(), DIRECTORY, attributes=self.set_of(element))
             return True
         inode_id, replication, *blocks = numbers
         stamps, ids = blocks[0::3], blocks[1::3]
@@ -165,7 +165,8 @@ class Dump(Walk):
             if min(ids) < formats.FIRST_BLOCK_ID or min(stamps) < self.first_gen:
                 return False
             self.note_blocks(min(ids), max(ids), max(stamps))
-        self.inodes.add(inode_id, texts[form.name].encode(), CLOSED if form.closed else OPEN, replication, blocks)
+        kind = CLOSED if form.closed else OPEN
+        self.inodes.add(inode_id, texts[form.name].encode(), kind, replication, blocks, self.set_of(element))
         return True
 
     def note_blocks(self, least, greatest, greatest_gen):
@@ -179,7 +180,7 @@ class Dump(Walk):
 
     def common_inodes(self, columns):
         """Adds many inodes."""
-        self.inodes.add_columns(columns)
+        self.inodes.add_columns(columns, self.sets_of(columns))
         if columns.blocks:
             ids = columns.blocks[1::3]
             self.note_blocks(min(ids), max(ids), max(columns.blocks[0::3]))
@@ -196,11 +197,23 @@ class Dump(Walk):
         # No path has the name of the root.
         name = b"" if inode_id == ROOT else name.encode()
         if file is None:
-            self.inodes.add(inode_id, name, DIRECTORY)
+            self.inodes.add(inode_id, name, DIRECTORY, attributes=self.set_of(element))
             return
-        self.inodes.add_file(inode_id, name, file)
+        self.inodes.add_file(inode_id, name, file, self.set_of(element))
         for block in file.blocks:
             self.note_blocks(block.id, block.id, block.gen)
+
+    # An image of this project has no attributes.
+
+    @staticmethod
+    def set_of(_element):
+        """The number of an inode's set of attributes."""
+        return 0
+
+    @staticmethod
+    def sets_of(_columns):
+        """The numbers of the sets of many inodes, or None."""
+        return None
 
     def file_of(self, inode):
         """The file that an inode is, or None for a directory."""

@@ -42,6 +42,8 @@ class Inodes:
         self.block_ends = array("Q", [0])
         self.kinds = bytearray()
         self.replications = array("q")
+        # The numbers of the sets of attributes.
+        self.sets = array("I")
         # The blocks of each bare file, which are none of some kind, by its row.
         self.bare = {}
         # What finds the row of an id, behind `finish`.
@@ -50,18 +52,19 @@ class Inodes:
     def __len__(self):
         return len(self.ids)
 
-    def add(self, inode_id, name, kind, replication=0, numbers=()):
-        """Adds an inode. The numbers are those of a file's blocks, one block after another."""
+    def add(self, inode_id, name, kind, replication=0, numbers=(), attributes=0):
+        """Adds an inode. The numbers are those of a file's blocks, one block after another; the last is a set's."""
         self.ids.append(inode_id)
         self.names += name
         self.name_ends.append(len(self.names))
         self.kinds.append(kind)
         self.replications.append(replication)
+        self.sets.append(attributes)
         self.blocks.extend(numbers)
         self.block_ends.append(len(self.blocks))
 
-    def add_columns(self, columns):
-        """Adds many inodes."""
+    def add_columns(self, columns, sets=None):
+        """Adds many inodes, with the numbers of their sets of attributes, or none."""
         begin = len(self.names)
         self.names += b"".join(columns.names)
         self.name_ends.extend(islice(accumulate(map(len, columns.names), initial=begin), 1, None))
@@ -71,12 +74,13 @@ class Inodes:
         self.ids.extend(columns.ids)
         self.kinds += columns.kinds
         self.replications.extend(columns.replications)
+        self.sets.extend(sets or bytes(len(columns.ids)))
 
-    def add_file(self, inode_id, name, file):
+    def add_file(self, inode_id, name, file, attributes=0):
         kind = CLOSED if file.closed else OPEN
         if isinstance(file.blocks, NoBlocks):
             kind, self.bare[len(self)] = BARE, file.blocks
-        self.add(inode_id, name, kind, file.replication, chain.from_iterable(file.blocks))
+        self.add(inode_id, name, kind, file.replication, chain.from_iterable(file.blocks), attributes)
 
     def finish(self):
         """Finds out where each id is. Answers the row of an id that came before, or None."""
@@ -84,12 +88,10 @@ class Inodes:
         self.rows = RowsOfIds(self.ids)
         return self.rows.repeated
 
-    def let_go(self):
-        """Keeps what each row is, and lets go of names and ids."""
-        self.ids = self.names = self.name_ends = self.rows = None
-
     def rows_of(self, ids):
         """The row of each id, or NONE."""
+        if self.rows is None:
+            self.rows = RowsOfIds(self.ids)
         return self.rows.of(ids)
 
     def name(self, row):

@@ -43,8 +43,13 @@ class Kept(Names):
         self.deep = []
         self.read()
 
+    has_names_of_program = True
+
     def full_name(self, name):
         return self.name_in_file(name).encode()
+
+    def live_rows(self):
+        return bytearray(b"\1") * len(self.inodes)
 
     def read(self):
         held = b""

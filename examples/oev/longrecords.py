@@ -4,7 +4,7 @@ import hashlib
 from bare import old_id
 from dumps import Element, plain_numbers
 from formats import FIRST_BLOCK_ID, Refused
-from shapes import Shape
+from shapes import Shape, texts_in
 
 # A member that a long record gets, so that two records differ if their blocks do.
 SUM = "SHA256"
@@ -53,8 +53,3 @@ def has_blocks_alone(element):
         return False
     ids = plain_numbers(element.texts[::3])
     return ids is not None and min(ids) >= FIRST_BLOCK_ID
-
-
-def texts_in(shape):
-    """How many texts an element of a shape has."""
-    return sum(tag is None and (at == 0 or shape.tags[at - 1] is not None) for at, tag in enumerate(shape.tags)) or 1

@@ -1,4 +1,6 @@
 """Finds names in directories whose children lie in arrays."""
+from array import array
+
 from inodes import NONE
 
 
@@ -7,6 +9,9 @@ class Names:
 
     Where a directory's children are not one list in the order of their bytes, `in_order` has their rows in that order.
     """
+
+    # Whether its rows have the names that the program has, and not the cluster's.
+    has_names_of_program = False
 
     def count_in(self, row):
         """How many names a directory has."""
@@ -34,6 +39,16 @@ class Names:
             else:
                 high = middle
         return NONE
+
+    def rows_in(self, row):
+        """The rows of the children that a directory lists, in the order of the dump."""
+        only = self.children.only_list(row)
+        places = self.children.places(row) if only is None else None
+        return self.child_rows[only] if only else array("i", map(self.child_rows.__getitem__, places))
+
+    def all_below(self, row):
+        """The rows of all that a directory lists."""
+        return self.rows_in(row)
 
     def full_name(self, name):
         """The bytes of a name, as the arrays have it."""

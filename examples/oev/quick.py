@@ -18,16 +18,23 @@ NUMBER = rb"[0-9]{1,18}"
 # A name that every path may have: without a colon, a slash and a backslash.
 NAME = rb"(?!\.\.?<)([!-%'-.0-9;=?-\[\]-~ ]{1,255})"
 
-# What is passed over of a file and of a directory, and where it lies.
-OF_FILES = b"mtime", b"atime", b"preferredBlockSize", b"permission"
-POLICY = (b"storagePolicyId",)
-OF_FOLDERS = b"mtime", b"permission", b"nsquota", b"dsquota"
+# What is passed over of a file and of a directory, and what is taken beside that, and where it lies.
+OF_FILES = b"mtime", b"atime"
+OF_FOLDERS = (b"mtime",)
 OF_CLIENTS = b"clientName", b"clientMachine"
+ATTRIBUTES_OF_FILES = b"preferredBlockSize", b"permission"
+POLICY = (b"storagePolicyId",)
+ATTRIBUTES_OF_FOLDERS = b"permission", b"nsquota", b"dsquota"
 
 
 def maybe(names):
     """Elements that may be there, in this order, each with any plain text."""
     return b"".join(rb"(?:<%b>%b</%b>)?" % (name, TEXT, name) for name in names)
+
+
+def taken(names):
+    """Such elements, of which the texts are taken."""
+    return b"".join(rb"(?:<%b>(%b)</%b>)?" % (name, TEXT, name) for name in names)
 
 
 def block(number):
@@ -39,15 +46,15 @@ BLOCK = block(rb"(%b)" % NUMBER)
 BLOCKS = rb"(?:<blocks>%b(?:%b)?((?:%b)*)</blocks>\n?)?" % (BLOCK, BLOCK, block(NUMBER))
 OPENED = rb"(<file-under-construction>%b</file-under-construction>\n?)?" % maybe(OF_CLIENTS)
 FILE = rb"FILE</type><name>%b</name><replication>(%b)</replication>" % (NAME, NUMBER)
-FILE += maybe(OF_FILES) + BLOCKS + maybe(POLICY) + OPENED
-FOLDER = rb"DIRECTORY</type><name>%b</name>" % NAME + maybe(OF_FOLDERS)
+FILE += maybe(OF_FILES) + taken(ATTRIBUTES_OF_FILES) + BLOCKS + taken(POLICY) + OPENED
+FOLDER = rb"DIRECTORY</type><name>%b</name>" % NAME + maybe(OF_FOLDERS) + taken(ATTRIBUTES_OF_FOLDERS)
 INODE = re.compile(rb"[\n ]*<inode><id>(%b)</id><type>(?:%b|%b)</inode>" % (NUMBER, FILE, FOLDER))
 LIST = re.compile(rb"[\n ]*<directory><parent>(%b)</parent>(?:<child>(%b(?:</child><child>%b)*)</child>)?</directory>" % ((NUMBER,) * 3))
 BETWEEN_CHILDREN = b"</child><child>"
 DIGITS = re.compile(rb"[0-9]+")
 
 # How what is passed over is counted, by the name of its element.
-KEYS = {name: f"inode/{name.decode()}" for name in (*OF_FILES, *POLICY, *OF_FOLDERS)}
+KEYS = {name: f"inode/{name.decode()}" for name in (*OF_FILES, *OF_FOLDERS)}
 KEYS.update((name, f"file-under-construction/{name.decode()}") for name in OF_CLIENTS)
 # The tags that end an element in a file and in a directory that have all that they may have, but blocks and a client.
 FILE_ENDS, FOLDER_ENDS, BLOCK_ENDS = 10, 8, 4
@@ -64,6 +71,8 @@ class Columns(NamedTuple):
     blocks: array
     block_ends: list
     passed: Counter
+    # The kind of each inode and the texts of its attributes: three of a file, three of a directory.
+    attributes: list = ()
 
 
 class Known:
@@ -95,7 +104,8 @@ def inodes_in(data, at, first_gen):
     rows, behind = matched(INODE, data, at)
     if not rows:
         return None, at
-    ids, names, replications, one, stamp, length, two, other_stamp, other_length, more, opened, folders = zip(*rows)
+    ids, names, replications, sizes, owners, *groups, policies, opened, folders, folder_owners, quotas, spaces = zip(*rows)
+    one, stamp, length, two, other_stamp, other_length, more = groups
     blocks, counts = blocks_of((stamp, one, length, other_stamp, two, other_length), more, is_id_first=True)
     if blocks and (min(blocks[1::3]) < FIRST_BLOCK_ID or min(blocks[0::3]) < first_gen):
         return None, at
@@ -109,6 +119,7 @@ def inodes_in(data, at, first_gen):
         blocks,
         list(accumulate(counts)),
         passed_in(data[at:behind], kinds, len(blocks) // 3, sum(map(bool, opened)), sum(map(bool, counts))),
+        list(zip(kinds, owners, sizes, policies, folder_owners, quotas, spaces)),
     )
     return columns, behind
 
@@ -148,8 +159,9 @@ def passed_in(piece, kinds, blocks, opened, with_blocks):
         passed.update({key: piece.count(b"<%b>" % name) for name, key in KEYS.items()})
         return passed
     # Each has all that it may have.
-    for names, count in (((*OF_FILES, *POLICY), files), (OF_FOLDERS, folders)):
-        passed.update(dict.fromkeys(map(KEYS.get, names), count))
+    for names, count in ((OF_FILES, files), (OF_FOLDERS, folders)):
+        for key in map(KEYS.get, names):
+            passed[key] += count
     return passed
 
 

@@ -9,6 +9,8 @@ import os
 import signal
 import struct
 import traceback
+from array import array
+from functools import cached_property
 from multiprocessing import Pipe
 from multiprocessing.reduction import recv_handle, send_handle
 from typing import NamedTuple, Optional
@@ -16,7 +18,8 @@ from typing import NamedTuple, Optional
 from bare import word_of
 from checkpoint import give_image, pieces_of, read_image
 from formats import Refused
-from inodes import BARE, DIRECTORY
+from inode_table import Entry, InodeTable, path_by
+from inodes import BARE, DIRECTORY, NONE
 from progress import STEP_SECONDS, size_of
 from running import CHUNK_BYTES, Feed
 from table import Table
@@ -94,8 +97,36 @@ class Second:
 
     def told_of(self, fault):
         """What is told of a line of the image that the program refuses."""
+        return self.asked("tell", fault)
+
+    # ---- Inodes, once its lines were given.
+
+    def ids_at(self, paths):
+        """The ids of what the image has at these paths of the program, or NONE."""
+        return self.asked("ids_at", paths)
+
+    def inodes(self, ids):
+        """The entry of each of these ids, or None, the sums of all others, and how many inodes there are in all."""
+        places, sets, *rest = self.asked("inodes_of", ids)
+        entries = [place and Entry(one, *place[:2], sets[place[2]]) for one, place in zip(ids, places)]
+        return (entries, *rest)
+
+    def of_buckets(self, buckets):
+        """The entries of these sums, by their ids."""
+        return self.asked("of_buckets", buckets)
+
+    def by_path(self, entries):
+        """Entries of the image by their paths."""
+        paths = self.asked("paths_of", [entry.id for entry in entries])
+        return {path: entry for path, entry in zip(paths, entries) if path is not None}
+
+    def columns_at(self, paths):
+        """The ids of what the image has at these paths, or NONE, the numbers of their sets, and these sets."""
+        return self.asked("columns_at", paths)
+
+    def asked(self, *words):
         with self.while_there():
-            self.channel.send(("tell", fault))
+            self.channel.send(words)
         return self.answer(None, "")
 
     @contextlib.contextmanager
@@ -165,7 +196,7 @@ class Side:
             self.answer(self.read)
             while True:
                 what, *words = self.channel.recv()
-                self.answer({"give": self.give, "tell": self.tell}[what], *words)
+                self.answer(getattr(self, what), *words)
         except (EOFError, ConnectionError):
             pass
 
@@ -218,3 +249,45 @@ class Side:
 
     def tell(self, fault):
         return told_of(fault, lambda: lines_in(pieces_of(self.dump)))
+
+    @cached_property
+    def table_of_inodes(self):
+        return InodeTable(self.dump, self.dump.sets, lambda name: name)
+
+    def ids_at(self, paths):
+        return list(map(self.id_at, paths))
+
+    def id_at(self, path):
+        row = self.row_at(path)
+        return NONE if row == NONE else self.dump.inodes.ids[row]
+
+    def row_at(self, path):
+        row = self.dump.root
+        for name in path[1:].split("/") if path else ():
+            row = NONE if row == NONE else self.dump.row_of(row, name)
+        return row
+
+    def columns_at(self, paths):
+        inodes, rows = self.dump.inodes, list(map(self.row_at, paths))
+        ids = array("q", (row if row == NONE else inodes.ids[row] for row in rows))
+        return ids, array("I", (0 if row == NONE else inodes.sets[row] for row in rows)), self.dump.sets.all
+
+    def inodes_of(self, ids):
+        table, inodes = self.table_of_inodes, self.dump.inodes
+        count = sum(table.is_live)
+        rows = [row if row != NONE and table.is_live[row] else None for row in inodes.rows_of(ids)]
+        places = [None if row is None else (table.directories[row], inodes.name(row), inodes.sets[row]) for row in rows]
+        table.leave_out(row for row in rows if row is not None)
+        return places, self.dump.sets.all, table.sums(), count
+
+    def of_buckets(self, buckets):
+        return self.table_of_inodes.of_buckets(buckets)
+
+    def paths_of(self, ids):
+        inodes = self.dump.inodes
+
+        def entry_of(inode_id):
+            row = inodes.rows_of([inode_id])[0]
+            return None if row == NONE else self.table_of_inodes.entry(row)
+
+        return [path_by(entry_of, inode_id) for inode_id in ids]

@@ -55,3 +55,8 @@ def only_places(shape):
     """The place of the text of each element in it that is the only one of its name and has no elements in it."""
     found = shape.of(named).items()
     return {name: children[0].first for name, children in found if len(children) == 1 and not children[0].tags}
+
+
+def texts_in(shape):
+    """How many texts an element of a shape has."""
+    return sum(tag is None and (at == 0 or shape.tags[at - 1] is not None) for at, tag in enumerate(shape.tags)) or 1

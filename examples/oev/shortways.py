@@ -6,9 +6,10 @@ change of the tree, and has done nothing where it does not go.
 from collections import Counter
 
 from bare import FEW_BLOCKS, is_bare
+from attributes import SETTING
 from edits import LEFT_OUT, SNAPSHOTS
 from formats import FIRST_BLOCK_ID, Block
-from tree import File, is_directory
+from tree import File, Folder, is_directory
 
 # A path of so many bytes has neither too many bytes nor too many names.
 FEW_BYTES = 1_000
@@ -37,11 +38,12 @@ class ShortWays:
         self.table = audited.table
         # How often a record of each form was kept.
         self.kept = {}
+        self.left_out = IS_LEFT_OUT if audited.followed is None else IS_LEFT_OUT - SETTING.keys()
 
     def take(self, conversion, record):
         """Takes a record. Answers whether that was done."""
         opcode = record.opcode
-        if opcode in IS_LEFT_OUT and not record.blocks:
+        if opcode in self.left_out and not record.blocks:
             conversion.log.leave_out(record.txid)
             conversion.left_out[opcode] += 1
             return True
@@ -62,6 +64,11 @@ class ShortWays:
                 passed[name] += 0 if name in taken else count
         return +passed
 
+    def made(self, *texts):
+        """The inode that a record makes, if inodes are followed."""
+        followed = self.audited.followed
+        return None if followed is None else followed.made(*texts)
+
     def note_stamps(self, blocks):
         audited = self.audited
         for gen, _, _ in blocks:
@@ -71,14 +78,14 @@ class ShortWays:
     # ---- Ways.
 
     def add(self, record, tree, log):
-        path, replication, policy = record.values
-        if record.blocks or replication is None or policy is not None and int(policy):
+        path, replication, policy, inode_id, *status, size = record.values
+        if record.blocks or replication is None or policy is not None and int(policy) or record.form.has_others:
             return False
         directory, name = place_in(tree, path)
         if directory is None or name in directory:
             return False
         log.write_line(ADD, (path, self.table.number(str(int(replication)))), record.txid)
-        directory[name] = File(False, [])
+        directory[name] = File(False, [], self.made(True, inode_id, *status, size))
         return True
 
     def add_block(self, record, tree, log):
@@ -141,10 +148,10 @@ class ShortWays:
 
     def make(self, record, tree, log):
         directory, name = place_in(tree, record.values[0])
-        if record.blocks or directory is None or name in directory:
+        if record.blocks or directory is None or name in directory or record.form.has_others:
             return False
         log.write_line(MKDIR, (record.values[0],), record.txid)
-        directory[name] = {}
+        directory[name] = Folder(self.made(False, *record.values[1:]))
         return True
 
     def rename(self, record, tree, log):

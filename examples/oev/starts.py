@@ -1,8 +1,10 @@
 """What a log goes on from in an audit: the first image, or the one that a chain keeps."""
 import contextlib
 import json
+from array import array
 from itertools import chain
 
+from attributes import Sets
 from bare import BLOCKS_OF
 from chain import Link
 from checkpoint import give_image, low_number, numbers_of, pieces_of, read_image
@@ -29,6 +31,11 @@ class FirstImage:
     def check(self, contradiction):
         if contradiction is not None:
             raise Refused(f"{self.name} contradicts itself: {contradiction}")
+
+    @property
+    def sets(self):
+        """The sets of attributes of its inodes."""
+        return self.dump.sets
 
     def header(self):
         last_block, last_gen, txid = numbers_of(self.dump)
@@ -63,6 +70,8 @@ class KeptImage:
         self.names = set(link.names)
         # The directories of as many names as there may be: more may have been below them.
         self.deep = ()
+        # The sets of attributes of its inodes, or None if the state has none.
+        self.sets = Sets(link.sets) if link.inodes else None
         self.shorten()
 
     @contextlib.contextmanager
@@ -117,8 +126,21 @@ class KeptImage:
         with self.open() as file:
             file.readline()
             kept = Kept(file, self.name_in_file)
+        if self.sets:
+            self.give_inodes(kept)
         self.deep = list(map(self.table.short_again, kept.deep))
         return tree_over(kept, self.link)
+
+    def give_inodes(self, kept):
+        """Gives its rows their ids and their sets of attributes."""
+        ids, sets = array("q"), array("I")
+        with open(self.name, "rb") as file:
+            file.seek(self.place - self.link.inodes * (ids.itemsize + sets.itemsize))
+            ids.fromfile(file, self.link.inodes)
+            sets.fromfile(file, self.link.inodes)
+        if len(kept.inodes) != self.link.inodes:
+            raise Refused(f"{self.name} has {self.link.inodes:,} inodes, and its image {len(kept.inodes):,}")
+        kept.inodes.ids, kept.inodes.sets = ids, sets
 
     def name_in_file(self, name):
         full = self.table.full_name(name)

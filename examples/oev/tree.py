@@ -8,13 +8,24 @@ CHANGES_OF_FILES = {"OP_ADD_BLOCK", "OP_UPDATE_BLOCKS", "OP_CLOSE", "OP_APPEND"}
 
 
 class File:
-    """Whether a file is closed, and the list of its blocks."""
+    """Whether a file is closed, the list of its blocks, and its inode, where that is followed too."""
 
-    __slots__ = ("closed", "blocks")
+    __slots__ = ("closed", "blocks", "inode")
 
-    def __init__(self, closed, blocks):
+    def __init__(self, closed, blocks, inode=None):
         self.closed = closed
         self.blocks = blocks
+        self.inode = inode
+
+
+class Folder(dict):
+    """A directory that the log made, and its inode, where that is followed too."""
+
+    __slots__ = ("inode",)
+
+    def __init__(self, inode=None):
+        super().__init__()
+        self.inode = inode
 
 
 class Tree:
@@ -47,7 +58,7 @@ class Tree:
     def file_of(self, row):
         """The file in a row of the inodes."""
         _, closed, blocks = self.inodes.file(row)
-        return File(closed, blocks)
+        return File(closed, blocks, row)
 
     def place(self, path):
         """The directory that a path lies in, and the path's last name. The directory is None where there is none."""
@@ -77,7 +88,7 @@ class Tree:
         """Follows an edit, which is a dictionary of a line's members."""
         op = edit["op"]
         if op == "OP_MKDIR":
-            self.put(edit["path"], {})
+            self.put(edit["path"], Folder())
         elif op == "OP_ADD":
             self.put(edit["path"], File(False, []))
         elif op == "OP_DELETE":

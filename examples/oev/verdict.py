@@ -9,9 +9,10 @@ from conversion import counted
 class Scope(NamedTuple):
     """What an audit compared, and what it did not."""
 
-    # How many directories, files and blocks are alike, and how many of these files are bare.
+    # How many directories, files and blocks are alike, how many of these files are bare, and of how many inodes more was compared.
     alike: Counter
     bare: int
+    inodes: int
     # What was not compared: titles, each with counts by kind, and counts beside them.
     left: dict
     others: Counter
@@ -21,6 +22,7 @@ class Scope(NamedTuple):
         files = self.alike["files"] - self.bare
         names = self.alike["directories"] + self.alike["files"]
         count = {"names": names, "kinds": names, "replication": files, "blocks": self.alike["blocks"], "open files": files}
+        count["attributes"] = self.inodes
         return [what for what, number in count.items() if number > 0]
 
     def not_compared(self):

@@ -92,12 +92,6 @@ class Walk(Names):
             self.in_order[row] = rows
         return names, rows
 
-    def rows_in(self, row):
-        """The rows of the children that a directory lists, in the order of the dump."""
-        only = self.children.only_list(row)
-        places = self.children.places(row) if only is None else None
-        return self.child_rows[only] if only else array("i", map(self.child_rows.__getitem__, places))
-
     def tell_unknown(self, row):
         for place in self.children.places(row):
             self.known(*self.child(place))

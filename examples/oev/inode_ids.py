@@ -1,0 +1,123 @@
+"""Which inode stands where, once the log was followed: the inodes of an image by their rows, and those that the log made.
+
+A tree says what has which name. Each of its nodes knows its inode: a file of the image is its row, or keeps that once it
+was looked for, and a directory of the image has its row. What the log makes has a `Made`.
+"""
+from attributes import SETTING, change, of_record, of_texts_of_record
+from formats import DoesNotApply, to_json
+from listed import Listed
+from tree import File, Folder, is_directory
+
+MAKING = {"OP_ADD": True, "OP_MKDIR": False}
+# The records that may put a file in the place of itself, with the member that has its path.
+REMAKING = {"OP_CONCAT_DELETE": "TRG", "OP_TRUNCATE": "SRC"}
+
+SNAPSHOT = "/.snapshot"
+
+
+class Made:
+    """An inode that the log made: its id, if the record has one, and its attributes, or the number of their set."""
+
+    __slots__ = ("id", "attributes")
+
+    def __init__(self, inode_id, attributes):
+        self.id = inode_id
+        self.attributes = attributes
+
+
+class Followed:
+    """What records of a log do to inodes and their attributes, beside what they do to the tree."""
+
+    def __init__(self, tree, sets):
+        self.tree = tree
+        self.sets = sets
+        # The attributes of rows of the image that a record changed.
+        self.changed = {}
+        # What stood at the path of the record that is followed.
+        self.before = None
+
+    # ---- A record: what is asked before the tree follows its edits, and behind that.
+
+    def begin(self, record):
+        """Looks at what may be put in the place of itself."""
+        member = REMAKING.get(record.opcode, "PATH") if record.opcode not in MAKING else None
+        self.before = self.at(record.data.string(member)) if member and record.data.find(member) is not None else None
+
+    def end(self, record):
+        """Gives an inode to what was made, and changes attributes. Answers whether the record sets some."""
+        if record.opcode in SETTING:
+            self.set(record)
+            return True
+        if record.opcode in MAKING:
+            node = self.tree.find(record.data.string("PATH"))
+            if isinstance(node, (File, Folder)) and node.inode is None:
+                node.inode = made_by(record)
+        elif self.before is not None:
+            node = self.at(record.data.string(REMAKING.get(record.opcode, "PATH")))
+            if isinstance(node, File) and node.inode is None:
+                node.inode = inode_of(self.before)
+        return False
+
+    def made(self, is_file, inode_id, owner, group, mode, size=None):
+        """The inode that a record of a common form makes, by the bytes of its texts."""
+        key = is_file, owner, group, mode, size
+        return Made(inode_id and int(inode_id), self.sets.kept(key, lambda: of_texts_of_record(*key)))
+
+    def at(self, path):
+        return self.tree.find(path) if path.startswith("/") else None
+
+    def set(self, record):
+        path = record.data.string(SETTING[record.opcode])
+        if SNAPSHOT in path:
+            return
+        node = self.at(path)
+        inode = inode_of(node)
+        if node is None:
+            raise DoesNotApply(f"there is nothing at {to_json(path)}")
+        if inode is not None:
+            change(self.attributes_of(inode), record, self.id_of(inode))
+
+    def attributes_of(self, inode):
+        """The attributes of an inode, to be changed."""
+        if isinstance(inode, Made):
+            if isinstance(inode.attributes, int):
+                inode.attributes = dict(self.sets.all[inode.attributes])
+            return inode.attributes
+        if inode not in self.changed:
+            self.changed[inode] = dict(self.sets.all[self.tree.inodes.sets[inode]])
+        return self.changed[inode]
+
+    def attributes_in(self, inode):
+        """The attributes of an inode, to be looked at."""
+        if isinstance(inode, Made):
+            return self.sets.all[inode.attributes] if isinstance(inode.attributes, int) else inode.attributes
+        return self.changed[inode] if inode in self.changed else self.sets.all[self.tree.inodes.sets[inode]]
+
+    def set_of(self, inode):
+        """The number of the set of an inode's attributes."""
+        if isinstance(inode, Made):
+            return inode.attributes if isinstance(inode.attributes, int) else self.sets.number(inode.attributes)
+        return self.sets.number(self.changed[inode]) if inode in self.changed else self.tree.inodes.sets[inode]
+
+    def give(self, inode, attributes):
+        """Gives an inode attributes in place of those that it has."""
+        if isinstance(inode, Made):
+            inode.attributes = attributes
+        else:
+            self.changed[inode] = attributes
+
+    def id_of(self, inode):
+        return inode.id if isinstance(inode, Made) else self.tree.inodes.ids[inode]
+
+
+def made_by(record):
+    """The inode that a record makes. One without an id is of an old layout, or of a trial."""
+    inode_id = record.data.find("INODEID")
+    return Made(None if inode_id is None else inode_id.value(), of_record(record.data, MAKING[record.opcode]))
+
+
+def inode_of(node):
+    """The inode of a node of the tree: a row of the image, or what the log made; None if it is not known."""
+    if isinstance(node, Listed):
+        return node.row
+    return node.inode if isinstance(node, (File, Folder)) else node

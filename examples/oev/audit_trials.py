@@ -1,6 +1,7 @@
 """Trials of `audit`: damages, lost edits, forms of real clusters, programs that fail, chains, clusters at random."""
 import contextlib
 import gzip
+import hashlib
 import io
 import json
 import os
@@ -20,9 +21,9 @@ from audit_damages import BLOCKS, DAMAGES, HARMLESS, LOST, SPARE, in_inode, repl
 from audit_forms import FORMS, long_in_chain, many_replications, marks_in_chain, moved_down, own_settings_in_chain
 from auditing import Audit
 from cases import document, record, rename
-from chain import Chain
+from chain import INODE_BYTES, Chain
 from cluster import Cluster
-from formats import Refused
+from formats import Refused, to_json
 from progress import Progress
 from proved import Program
 from running import Running
@@ -589,20 +590,30 @@ def check_state(trials, folder, last):
         ("with another digit in its image", b'"len":200', b'"len":201', damaged),
         ("with another digit in its first line", b'"audits":1', b'"audits":2', damaged),
         ("with another end", b'{"end":', b'{"enf":', damaged),
-        ("of another form", b"hdfs-audit-2", b"hdfs-audit-3", "is no state of an audit"),
-        ("that says it is of the form before", b"hdfs-audit-2", b"hdfs-audit", "is no state of an audit"),
+        ("of another form", b"hdfs-audit-3", b"hdfs-audit-4", "is no state of an audit"),
+        ("that says it is of the form before", b"hdfs-audit-3", b"hdfs-audit-2", "is no state of an audit"),
+        ("that says it is of the first form", b"hdfs-audit-3", b"hdfs-audit", "is no state of an audit"),
+        ("with another owner in its first line", b'"owner":"hdfs"', b'"owner":"root"', damaged),
+        ("with another count of inodes", b'"inodes":', b'"inodes":1', damaged),
         ("with a kind that there is not", b'"bare":{}', b'"bare":{"/data/notes":"no"}', "is no state of an audit"),
         ("that is torn", whole, b"{}", "is no state of an audit"),
     ):
         put(name, whole.replace(old, new, 1))
         trials.refused(f"a state {what}", reason, *words)
     head, rest = whole.split(b"\n", 1)
-    members = {name: it for name, it in json.loads(head).items() if name not in ("sha256", "names", "replications")}
-    put(name, json.dumps({**members, "form": "hdfs-audit", "bare": []}).encode() + b"\n" + rest)
-    output = trials.audited("a state of the form before", 0, "alike: ", *words)
-    trials.check.contains("that it is", output, f"{name} has no sum yet, and is taken as it is: ")
-    with open(name) as file:
-        trials.check.contains("the state behind it", file.readline(), '"sha256":"')
+    members = {name: it for name, it in json.loads(head).items() if name not in ("sha256", "inodes", "sets")}
+    rest = rest[json.loads(head)["inodes"] * INODE_BYTES :]
+    found = hashlib.sha256(to_json({name: it for name, it in members.items() if name != "form"}).encode() + rest).hexdigest()
+    before = {**members, "form": "hdfs-audit-2", "sha256": found}
+    first = {**{name: it for name, it in members.items() if name not in ("names", "replications")}, "form": "hdfs-audit", "bare": []}
+    for form, said in ((before, "has no attributes yet, which were not compared: "), (first, "has no sum yet, and is taken as it is: ")):
+        put(name, json.dumps(form).encode() + b"\n" + rest)
+        output = trials.audited("a state of a form before", 0, "alike: ", *words)
+        trials.check.contains("that it is", output, f"{name} {said}")
+        with open(name, "rb") as file:
+            members = json.loads(file.readline())
+        whole = {key: members[key] for key in ("form", "inodes")}
+        trials.check.same("the state behind it", (whole, len(members["sets"]) > 1), ({"form": "hdfs-audit-3", "inodes": 10}, True))
 
 
 def put(name, content):

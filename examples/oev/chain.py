@@ -146,6 +146,8 @@ def link_of(form, members):
         return Link(**{**members, "bare": dict.fromkeys(members["bare"], UNKNOWN.kind)}, is_old=True)
     if form not in (FORM, FORM_WITHOUT_INODES) or not set(members["bare"].values()) <= BLOCKS_OF.keys():
         raise ValueError
+    if (form == FORM) != ("inodes" in members):
+        raise ValueError
     return Link(**members)
 
 

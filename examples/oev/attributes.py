@@ -3,6 +3,8 @@
 An attribute is a text under a name. One that nothing says is UNKNOWN, and is like everything: the XML of an OP_ADD has
 neither extended attributes nor a storage policy. What is said of Hadoop is from knowledge of its code.
 """
+import re
+
 from dumps import unescaped
 from formats import Refused
 from inodes import DIRECTORY
@@ -20,8 +22,10 @@ XATTR = "xattr"
 # The one in which a directory has its storage policy, and the one with which all begin that HDFS itself sets.
 POLICY_OF_DIRECTORY = "xattr SYSTEM hsm.block.storage.policy.id"
 
+OCTAL, DECIMAL = re.compile("[0-7]{1,8}"), re.compile("-?[0-9]{1,19}")
+
 ROOT = 16385
-NO_QUOTA, KEPT_QUOTA = -1, (1 << 63) - 1
+NO_QUOTA, KEPT_QUOTA = "-1", str((1 << 63) - 1)
 STORAGE_TYPES = "RAM_DISK", "SSD", "DISK", "ARCHIVE", "PROVIDED", "NVDIMM"
 
 STICKY, ALL_BITS = 0o1000, 0o1777
@@ -94,7 +98,7 @@ def of_texts(is_file, permission, size, policy, names, space):
         found["ec"] = "0"
         return found
     for name, quota in (("quota-names", names), ("quota-bytes", space)):
-        if quota not in (None, "-1"):
+        if quota not in (None, NO_QUOTA):
             found[name] = plain(quota)
     return found
 
@@ -109,19 +113,13 @@ def of_permission(text):
 
 
 def octal(text):
-    """A mode, as four octal digits."""
-    try:
-        return f"{int(text, 8) & ALL_BITS:04o}"
-    except ValueError:
-        raise Refused(f"the mode {text[:40]!r} is none") from None
+    """A mode, as four octal digits. What is none is compared as it stands."""
+    return f"{int(text, 8) & ALL_BITS:04o}" if OCTAL.fullmatch(text) else text
 
 
 def plain(text):
-    """A number, without zeros before it."""
-    try:
-        return str(int(text))
-    except ValueError:
-        raise Refused(f"an attribute is {text[:40]!r}, and no number") from None
+    """A number, without zeros before it. What is none is compared as it stands."""
+    return str(int(text)) if DECIMAL.fullmatch(text) else text
 
 
 def of_inode(inode):
@@ -325,24 +323,24 @@ def set_policy(attributes, data, _inode_id):
 
 def set_quota(attributes, data, inode_id):
     """An OP_CLEAR_NS_QUOTA has no number."""
-    set_one(attributes, "quota-names", int(text_in(data, "NSQUOTA") or NO_QUOTA), inode_id == ROOT)
+    set_one(attributes, "quota-names", text_in(data, "NSQUOTA") or NO_QUOTA, inode_id == ROOT)
     if data.find("DSQUOTA") is not None:
-        set_one(attributes, "quota-bytes", int(data.text_of("DSQUOTA")), False)
+        set_one(attributes, "quota-bytes", data.text_of("DSQUOTA"), False)
 
 
 def set_quota_of_type(attributes, data, _inode_id):
     """The type is its name, or its place among them."""
     kind = data.string("STORAGETYPE")
-    if kind.isdigit():
-        kind = STORAGE_TYPES[int(kind)] if int(kind) < len(STORAGE_TYPES) else kind
-    set_one(attributes, f"quota-{kind}", int(data.text_of("DSQUOTA")), False)
+    if DECIMAL.fullmatch(kind):
+        kind = dict(enumerate(STORAGE_TYPES)).get(int(kind), kind)
+    set_one(attributes, f"quota-{kind}", data.text_of("DSQUOTA"), False)
 
 
 def set_one(attributes, key, quota, is_names_of_root):
     """Sets a quota. The root keeps one for its names."""
     if quota == KEPT_QUOTA or quota == NO_QUOTA and is_names_of_root:
         return
-    put(attributes, key, "" if quota == NO_QUOTA else str(quota))
+    put(attributes, key, "" if quota == NO_QUOTA else plain(quota))
 
 
 CHANGES = {

@@ -10,7 +10,7 @@ from operator import itemgetter
 from typing import NamedTuple
 
 from dumps import Element, elements
-from quick import NUMBER, TEXT
+from quick import NUMBER, PLAIN, TEXT
 from reading import Repeats, parts_of, places_of_texts
 
 # What is taken of the records of an opcode. Of every other one it is its paths, so that they are seen to be plain.
@@ -27,9 +27,7 @@ PATHS = ("PATH", "SRC", "DST", "TRG")
 
 # A path as most are: its names are no longer than a name may be, and JSON has them as they are.
 PATH = rb"((?:/(?!\.\.?[/<])[!#-%'-.0-9;=?-\[\]-~ ]{1,255})+)"
-# A text without escapes.
-PLAIN = rb"([!-%'-;=?-\[\]-~ ]*)"
-PATTERNS = {**dict.fromkeys(PATHS, PATH), "OPTIONS": rb"([A-Z_|]*)", "USERNAME": PLAIN, "GROUPNAME": PLAIN}
+PATTERNS = {**dict.fromkeys(PATHS, PATH), "OPTIONS": rb"([A-Z_|]*)", **dict.fromkeys(("USERNAME", "GROUPNAME"), rb"(%b)" % PLAIN)}
 # Where wanted texts stand.
 DATA = ["RECORD", "DATA"]
 STATUS = [*DATA, "PERMISSION_STATUS"]

@@ -14,6 +14,8 @@ from formats import FIRST_BLOCK_ID
 from inodes import CLOSED, DIRECTORY, OPEN
 
 TEXT = rb"[!-%'-;=?-~ ]*"
+# One without escapes.
+PLAIN = rb"[!-%'-;=?-\[\]-~ ]*"
 NUMBER = rb"[0-9]{1,18}"
 # A name that every path may have: without a colon, a slash and a backslash.
 NAME = rb"(?!\.\.?<)([!-%'-.0-9;=?-\[\]-~ ]{1,255})"
@@ -34,7 +36,7 @@ def maybe(names):
 
 def taken(names):
     """Such elements, of which the texts are taken."""
-    return b"".join(rb"(?:<%b>(%b)</%b>)?" % (name, TEXT, name) for name in names)
+    return b"".join(rb"(?:<%b>(%b)</%b>)?" % (name, PLAIN, name) for name in names)
 
 
 def block(number):

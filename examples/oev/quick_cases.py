@@ -13,6 +13,7 @@ from cases import add, block, close, document, end, mkdir, path, record, rename,
 from checkpoint import Checkpoint, pieces_of
 from conversion import Conversion, records_of
 from formats import Refused
+from inode_ids import Followed, inode_of
 from image_cases import FIRST_ID, ROOT, directory, image, inode, member
 from listed import ListedTree
 from log import Log, Map, Whole
@@ -43,6 +44,16 @@ FORMS = {
         (b"<genstamp>1001<", b"<genstamp>5<"),
         (b"<mtime>7</mtime>", b"<mtime><x>7</x></mtime>"),
         (b"<mtime>7</mtime>", b"<mtime/>"),
+        (b"ada:staff:0644", b"ada:staff:u"),
+        (b"ada:staff:0644", b"ad\\0041;:staff:00644"),
+        (b"ada:staff:0644", b"ad\\:staff:0644"),
+        (b"<permission>ada:staff:0644</permission>", b""),
+        (b"<storagePolicyId>0<", b"<storagePolicyId>15<"),
+        (b"<storagePolicyId>0<", b"<storagePolicyId>x<"),
+        (b"<storagePolicyId>0</storagePolicyId>", b""),
+        (b"<nsquota>-1<", b"<nsquota>007<"),
+        (b"<dsquota>-1</dsquota>", b""),
+        (b"<preferredBlockSize>134217728<", b"<preferredBlockSize><"),
     ],
     "logs": [
         (b">OP_TIMES<", b">OP_[\\G<"),
@@ -72,6 +83,16 @@ FORMS = {
         (b">OVERWRITE<", b">NO_SUCH<"),
         (b"<SRC>/04 d<", b"<SRC>/04 d<x/><"),
         (b"</RECORD>", b"</RECORD>x"),
+        (b"<MODE>420<", b"<MODE>x<"),
+        (b"<MODE>420<", b"<MODE>9999<"),
+        (b"<USERNAME>ada<", b"<USERNAME>a\\0041;<"),
+        (b"<USERNAME>ada<", b"<USERNAME><"),
+        (b"</PERMISSION_STATUS>", b"<USERNAME>x</USERNAME></PERMISSION_STATUS>"),
+        (b"</PERMISSION_STATUS>", b"</PERMISSION_STATUS><USERNAME>x</USERNAME>"),
+        (b"</PERMISSION_STATUS>", b"</PERMISSION_STATUS><XATTR><NAMESPACE>USER</NAMESPACE><NAME>k</NAME></XATTR>"),
+        (b"<INODEID>", b"<INODEID>-"),
+        (b"<INODEID>30001</INODEID>", b""),
+        (b"<BLOCKSIZE>134217728<", b"<BLOCKSIZE>0<"),
     ],
 }
 BYTES = b"<>&/;:.\\]\"'=-_ \t\r\n\0\x01\x7f\x80\xc3\xff0159az"
@@ -112,14 +133,14 @@ def outcome(data, is_quick):
         return type(reason).__name__, str(reason)
     inodes = dump.inodes
     arrays = inodes.ids, inodes.names, inodes.name_ends, inodes.kinds, inodes.replications, inodes.blocks, inodes.block_ends
-    greatest = dump.greatest_block, dump.greatest_gen, dump.with_line_feeds
+    greatest = dump.greatest_block, dump.greatest_gen, dump.with_line_feeds, [dump.sets.all[number] for number in inodes.sets]
     return arrays, dump.children.owners, dump.child_rows, dump.children.ends, dict(dump.passed), greatest
 
 
 def common_log():
     """A log behind the image of `common_dump`, whose records are of the forms that most have, as `hdfs oev` lays them out."""
     owner = member("PERMISSION_STATUS", member("USERNAME", "ada") + member("GROUPNAME", "staff") + member("MODE", 420))
-    records = [start(8), mkdir(9, "/04 d/new")]
+    records = [start(8), record("OP_MKDIR", 9, member("INODEID", 30000), path("/04 d/new"), owner)]
 
     def put(make, *words):
         records.append(make(8 + len(records), *words))
@@ -127,7 +148,7 @@ def common_log():
     for turn in range(TURNS):
         ids, name = [FIRST_ID + 201 + 2 * turn, FIRST_ID + 202 + 2 * turn], f"/04 d/new/f{turn}"
         stamps = [1101 + 2 * turn, 1102 + 2 * turn]
-        put(add, name + "._COPYING_", "true", member("LENGTH", 0), owner)
+        put(add, name + "._COPYING_", "true", member("INODEID", 30001 + turn), member("BLOCKSIZE", 134217728), owner)
         for at in range(1 + turn % 2):
             put(of("OP_ALLOCATE_BLOCK_ID", member("BLOCK_ID", ids[at])))
             put(of("OP_SET_GENSTAMP_V2", member("GENSTAMPV2", stamps[at])))
@@ -138,7 +159,8 @@ def common_log():
         put(rename, name + "._COPYING_", name, *(["OVERWRITE"] if turn % 3 == 2 else []))
         put(of("OP_TIMES", member("LENGTH", 0), path(f"/{turn:02}-f"), member("MTIME", 1)))
         put(of("OP_SET_REPLICATION", path(f"/{turn:02}-f"), member("REPLICATION", 2)))
-        put(of("OP_SET_OWNER", member("SRC", "/04 d"), member("USERNAME", "ada")))
+        put(of("OP_SET_OWNER", member("SRC", "/04 d"), member("USERNAME", f"ada{turn}")))
+        put(of("OP_SET_PERMISSIONS", member("SRC", name), member("MODE", 384 + turn)))
         put(of("OP_DELETE", member("LENGTH", 0), path(f"/{turn + 10:02}-f")))
     put(end)
     return document(*(text.replace("><", ">\n    <") for text in records)).encode()
@@ -154,9 +176,11 @@ def outcome_of_log(data, is_quick, dump):
     file = io.BytesIO(data)
     file.name = "dump"
     dump.use(Table(), {})
-    audited, lines, numbers = Audited(1001, dump.table), io.BytesIO(), io.StringIO()
+    tree, lines, numbers = ListedTree(dump), io.BytesIO(), io.StringIO()
+    followed = Followed(tree, dump.sets)
+    audited = Audited(1001, dump.table, (), followed)
     ways, log = ShortWays(audited), Log(Whole(lines, 2_000), 7, 2, Map(numbers))
-    conversion, reason = Conversion(ListedTree(dump), log, (), audited.edits_of, ways.take), None
+    conversion, reason = Conversion(tree, log, (), audited.edits_of, ways.take, audited.behind), None
     conversion.begin_after(7)
     try:
         for found in records_of(file, is_quick):
@@ -166,20 +190,23 @@ def outcome_of_log(data, is_quick, dump):
         reason = type(refused).__name__, str(refused)
     counts = dict(conversion.kept), dict(conversion.left_out), dict(audited.passed + ways.passed(TAKEN)), audited.carriage_returns
     stamps = audited.first_issued, sorted(audited.given), audited.table.members()
-    return reason, lines.getvalue(), numbers.getvalue(), counts, stamps, names_in(conversion.tree), bare_paths(conversion.tree)
+    return reason, lines.getvalue(), numbers.getvalue(), counts, stamps, names_in(tree, followed), bare_paths(tree)
 
 
-def names_in(tree):
-    """What the log made of a tree: the paths of the files that it changed, each with what is known of the file."""
+def names_in(tree, followed):
+    """What the log made of a tree: the paths of what it changed, each with what is known of it and of its inode."""
     found, ahead = {}, [("", tree.root)]
     while ahead:
         above, names = ahead.pop()
         for name, node in names.items():
+            if node is None:
+                continue
+            inode = inode_of(node)
+            known = (node.closed, list(node.blocks)) if hasattr(node, "blocks") else ()
+            found[f"{above}/{name}"] = *known, inode is not None and (followed.id_of(inode), followed.attributes_in(inode))
             if isinstance(node, dict):
                 ahead.append((f"{above}/{name}", node))
-            else:
-                found[f"{above}/{name}"] = (node.closed, list(node.blocks)) if hasattr(node, "blocks") else node
-    return {name: node for name, node in found.items() if node is not None}
+    return found
 
 
 def changed(whole, count, seed):

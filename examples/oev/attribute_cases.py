@@ -1,8 +1,9 @@
 """Trials of attributes: damages of what an audit compares beside names and blocks, each with a change that is none."""
 import os
+import shutil
 
-from audit_damages import in_inode, replaced, several, written
-from cases import document, record
+from audit_damages import in_inode, written
+from cases import record
 from cluster import Cluster
 
 ZONE = b"\x0a\x05zone1"
@@ -22,6 +23,8 @@ class Story:
         self.still = written(cluster, self.zone, "still", 20)
         cluster.set_xattr(self.zone, "RAW", "hdfs.crypto.encryption.zone", ZONE)
         cluster.set_xattr(self.still, "USER", "origin", b"a & b")
+        self.whole, self.parts = written(cluster, self.zone, "whole", 40), [written(cluster, self.zone, name, 50) for name in ("p1", "p2")]
+        self.groups = written_striped(cluster, self.zone, "groups")
         self.first = cluster.txid
         self.log()
         cluster.end_segment()
@@ -45,12 +48,35 @@ class Story:
         cluster.set_permissions(self.new, 0o600)
         self.moved = cluster.make_directory(zone, "moved")
         cluster.rename(self.still, self.moved, "still")
-        striped = cluster.create(zone, "striped", policy=1)
-        cluster.add_block(striped)
-        cluster.close(striped, 5)
+        self.striped = written_striped(cluster, zone, "striped")
+        cluster.append(self.groups)
+        cluster.add_block(self.groups, 900)
+        cluster.close(self.groups, 901)
+        cluster.concat(self.whole, self.parts)
+        cluster.append(self.whole)
+        cluster.add_block(self.whole, 60)
+        cluster.close(self.whole, 70)
 
     def image(self, txid=None):
         return self.cluster.images[txid or self.cluster.txid]
+
+
+def written_striped(cluster, directory, name):
+    file = cluster.create(directory, name, policy=1)
+    cluster.add_block(file)
+    cluster.close(file, 5)
+    return file
+
+
+def member_of(block):
+    """A block as an image has it."""
+    block_id, stamp, length = block
+    return f"<block><id>{block_id}</id><genstamp>{stamp}</genstamp><numBytes>{length}</numBytes></block>"
+
+
+def words_of(block):
+    block_id, stamp, length = block
+    return f"{block_id}:{stamp}:{length}"
 
 
 def swapped(one, other):
@@ -70,6 +96,7 @@ def swapped(one, other):
 def damages(story):
     """A name, a damage of the second image, and what is told of it."""
     still, new = story.still.id, story.new.id
+    striped, groups, whole = story.striped.blocks, story.groups.blocks, story.whole.blocks
     return [
         ("a mode", in_inode("f", ":0650<", ":0640<"), FIRST_FILE + '"mode" "0650" "0640"\n'),
         ("the mode of what no record names", in_inode("still", ":0755<", ":0777<"), '"/zone/moved/still" "mode" "0755" "0777"\n'),
@@ -95,7 +122,16 @@ def damages(story):
         ("an EC policy", in_inode("striped", "PolicyId>1<", "PolicyId>2<"), 'attribute "/zone/striped" "ec" "1" "2"\n'),
         ("a block size of 0", in_inode("new", "<preferredBlockSize>134217728<", "<preferredBlockSize>0<"), NEW + '"block-size" "134217728" "0"\n'),
         ("the ids of two inodes", swapped(still, new), f'inode "/zone/moved/still" {still} {new}\n'),
+        ("a striped file without its block group", without_block("striped", striped[0]), f'block "/zone/striped" 0 {words_of(striped[0])} -\n'),
+        ("a block group that was added", without_block("groups", groups[1]), f'block "/zone/groups" 1 {words_of(groups[1])} -\n'),
+        ("another length of a block group", in_inode("groups", ">901<", ">902<"), f'block "/zone/groups" 1 {words_of(groups[1])} '),
+        ("a block that is lost behind a concat", without_block("whole", whole[1]), f'block "/zone/whole" 1 {words_of(whole[1])} '),
+        ("a block of another stamp behind a concat", in_inode("whole", f">{whole[2][1]}<", ">1001<"), f'block "/zone/whole" 2 {words_of(whole[2])} '),
     ]
+
+
+def without_block(name, block):
+    return in_inode(name, member_of(block), "")
 
 
 HARMLESS = [
@@ -174,8 +210,14 @@ def check_trusted(trials, story, first, log):
     cluster.end_segment()
     cluster.keep_image()
     log = trials.log(*(text for _, text in cluster.records))
+    shutil.copytree(state, f"{state}-before")
+    lost = without_block("whole", story.whole.blocks[1])
+    output = trials.audited("a block lost behind a concat, in a chain", 1, "", "--state", shutil.copytree(state, f"{state}-copy"), "--to", trials.check.file(lost(given(story.image()))), log)
+    trials.check.contains("what is told then", output, 'block "/zone/whole" 1 ')
     for name, status, image in (("another one", 1, story.image()), ("the same", 0, given(story.image()))):
         output = trials.audited(f"a policy that was taken, and {name}", status, "", "--state", state, "--to", trials.check.file(image), log)
         if status:
             trials.check.contains("what is told then", output, NEW + '"policy" "15" "0"\n')
-            break
+            # What follows goes on from the same state.
+            shutil.rmtree(state)
+            shutil.copytree(f"{state}-before", state)

@@ -79,7 +79,8 @@ def truncates():
     yield Form("a truncate of a file that was shorter", cluster, first, said, is_same=False)
 
 
-ONE_BARE = "not compared, files whose blocks can't be held here: 1\n"
+ALIKE = "alike: "
+NOT_KNOWN = "not compared, files whose blocks no record tells: 1\n"
 
 
 def old_layouts():
@@ -97,7 +98,7 @@ def old_layouts():
         cluster.add_block(closed, 20)
         cluster.close(closed, 30)
         cluster.rename(closed, cluster.root, "moved")
-        yield Form(name, cluster, first, ONE_BARE)
+        yield Form(name, cluster, first, ALIKE)
 
 
 def outgrown():
@@ -127,20 +128,20 @@ def bare_files():
     cluster.close(striped, 7)
     cluster.set_replication(striped, 2)
     cluster.create(directory, "closed", policy=1)
-    yield Form("a striped file, and one over another file", cluster, first, ONE_BARE.replace("1", "2"))
+    yield Form("a striped file, and one over another file", cluster, first, ALIKE)
 
     cluster, opened = outgrown()
     first = cluster.txid
     for _ in range(20):
         cluster.add_block(opened, FULL - 1)
     cluster.close(opened, 9)
-    yield Form("a file that outgrows a line", cluster, first, ONE_BARE)
+    yield Form("a file that outgrows a line", cluster, first, ALIKE)
 
     cluster, closed, other = two_closed()
     first = cluster.txid
     cluster.concat(closed, [other])
     cluster.set_replication(closed, 2)
-    yield Form("a concat", cluster, first, ONE_BARE)
+    yield Form("a concat", cluster, first, ALIKE)
 
 
 def kinds():
@@ -166,9 +167,9 @@ def kinds():
         first = cluster.txid
         cluster.concat(closed, [other])
         change(closed)
-        yield Form(name, cluster, first, f'kind "/d/closed" {said}' if said else ONE_BARE, is_same=not said)
+        yield Form(name, cluster, first, f'kind "/d/closed" {said}' if said else 'block "/d/closed" 2 - 77:5:7\n', is_same=False)
 
-    for name, is_old, said in (("a file of an old layout that is of this one there", False, 'kind "/d/closed" old file\n'), ("one that is of it", True, ONE_BARE)):
+    for name, is_old, said in (("a file of an old layout that is of this one there", False, 'kind "/d/closed" old file\n'), ("one that is of it", True, ALIKE)):
         cluster, _, (closed, _) = begun()
         blocks, closed.blocks, cluster.last_stamp = closed.blocks, [[77, 5, 10]], 3000
         first = cluster.txid
@@ -178,14 +179,14 @@ def kinds():
 
     for name, count, said in (
         ("a file that outgrows a line, of few blocks there", 9, 'kind "/d/open" long file\n'),
-        ("a file that outgrows a line, with other blocks there", 1300, ONE_BARE),
+        ("a file that outgrows a line, with other blocks there", 1300, 'block "/d/open" 1300 '),
     ):
         cluster, opened = outgrown()
         first = cluster.txid
         cluster.add_block(opened, FULL - 1)
         cluster.close(opened, 9)
         opened.blocks = opened.blocks[:count]
-        yield Form(name, cluster, first, said, is_same=said is ONE_BARE)
+        yield Form(name, cluster, first, said, is_same=False)
 
 
 def given_ids():
@@ -214,7 +215,7 @@ def given_ids():
     closed.blocks, cluster.last_stamp = [[77, 5, 10]], 3000
     first = cluster.txid
     cluster.truncate(closed, 0)
-    yield Form("a truncate of a file of an old layout to nothing", cluster, first, ONE_BARE)
+    yield Form("a truncate of a file of an old layout to nothing", cluster, first, NOT_KNOWN)
 
 
 TOLD_OLD = '"/d/closed" has no block of an old layout and is not striped, and is given {}\n'
@@ -317,7 +318,7 @@ def own_settings():
         first = cluster.txid
         cluster.set_replication(striped, 2)
         striped.policy *= said is None
-        yield Form(f"a striped file of a long name, {kind} there", cluster, first, said or ONE_BARE, is_same=not said)
+        yield Form(f"a striped file of a long name, {kind} there", cluster, first, said or ALIKE, is_same=not said)
 
     for depth, name in ((33, wide), (1000, "e")):
         for is_same in (True, False):

@@ -21,7 +21,7 @@ from audit_damages import BLOCKS, DAMAGES, HARMLESS, LOST, SPARE, in_inode, repl
 from audit_forms import FORMS, long_in_chain, many_replications, marks_in_chain, moved_down, own_settings_in_chain
 from auditing import Audit
 from cases import document, record, rename
-from chain import INODE_BYTES, Chain
+from chain import INODE_BYTES, OF_INODES, Chain
 from cluster import Cluster
 from formats import Refused, to_json
 from progress import Progress
@@ -105,10 +105,10 @@ def check_same(trials):
     between = trials.image(trials.first), trials.image(trials.last)
     output = trials.audited("the story", 0, "alike: ", "--from", between[0], "--to", between[1], trials.whole)
     makes = f"the image of TXID {trials.last} is what the log makes of the image of TXID {trials.first}\n"
-    same = "the same in names, kinds, replication, blocks, open files, attributes; not compared: 26 items of 13 kinds\n"
+    same = "the same in names, kinds, replication, blocks, open files, attributes; not compared: 25 items of 12 kinds\n"
     trials.check.holds("the verdict on the story", output.endswith(makes + same), output)
     members = "3 (NEWBLOCK 2, TIMESTAMP 1)"
-    for said in ("inode/mtime 10", "1 (OP_TIMES 1)", members, "files whose blocks can't be held here: 1\n"):
+    for said in ("inode/mtime 10", "1 (OP_TIMES 1)", members, "no record tells: 4 (policy 2, xattr 2)"):
         trials.check.contains("what is not compared", output, said)
 
 
@@ -601,7 +601,7 @@ def check_state(trials, folder, last):
         put(name, whole.replace(old, new, 1))
         trials.refused(f"a state {what}", reason, *words)
     head, rest = whole.split(b"\n", 1)
-    members = {name: it for name, it in json.loads(head).items() if name not in ("sha256", "inodes", "sets")}
+    members = {name: it for name, it in json.loads(head).items() if name not in ("sha256", *OF_INODES)}
     rest = rest[json.loads(head)["inodes"] * INODE_BYTES :]
     found = hashlib.sha256(to_json({name: it for name, it in members.items() if name != "form"}).encode() + rest).hexdigest()
     before = {**members, "form": "hdfs-audit-2", "sha256": found}

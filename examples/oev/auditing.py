@@ -80,7 +80,7 @@ class Audit:
         alike = None
         if contradiction is not None:
             self.differences.tell("inconsistent", contradiction)
-        link = Link(start.link.first, facts.txid, start.link.audits + 1, start.link.cluster, in_order(log.bare), **self.table.members())
+        link = Link(start.link.first, facts.txid, start.link.audits + 1, start.link.cluster, in_order(log.bare), blocks=in_order(log.blocks), **self.table.members())
         if applies:
             self.compare_inodes(log, contradiction is None)
             alike = self.compare(facts, given, link, contradiction is None)
@@ -293,7 +293,7 @@ class Audit:
         found = self.inodes
         others = {
             "inodes that only snapshots hold": given.only_in_snapshots,
-            "files whose blocks can't be held here": len(bare),
+            "files whose blocks no record tells": found.unknown_blocks() if found else len(bare),
             "records with a carriage return in a name, taken as a line feed": log.edits.carriage_returns,
             "names of the image with a line feed, which may be a carriage return": facts.with_line_feeds,
             # One of the images may lack some.
@@ -313,5 +313,5 @@ class Audit:
 
 
 def in_order(kinds):
-    """The kinds of bare files that a state keeps: of those whose paths it has."""
+    """What a state keeps of bare files: of those whose paths it has."""
     return dict(sorted((path, kind) for path, kind in kinds.items() if path.count("/") <= PATH_NAMES))

@@ -4,7 +4,9 @@ All else is as it is: their names, and that they are files. Their paths are kept
 in both images and in the log. An image shows which files are striped, and which have blocks of an old layout. The log
 makes a striped file, one of more blocks than a line holds, and one of which it can't say which blocks it has.
 """
-from formats import FIRST_BLOCK_ID, NoBlocks
+import re
+
+from formats import FIRST_BLOCK_ID, GREATEST_NUMBER, NoBlocks
 from inodes import File
 from tree import is_directory, is_packed
 
@@ -14,6 +16,8 @@ UNKNOWN = NoBlocks("unknown")
 
 BLOCKS_OF = {blocks.kind: blocks for blocks in (STRIPED, OLD, LONG, REPLICATED, UNKNOWN)}
 
+NEGATIVE = re.compile("-[0-9]{1,19}")
+
 # A line has room for so many blocks, whatever its path. A file that is longer has more.
 FEW_BLOCKS = 100
 
@@ -22,9 +26,20 @@ def is_bare(file):
     return isinstance(file.blocks, NoBlocks)
 
 
-def bare_file(kind):
-    """A bare file. Its replication is not known."""
-    return File(0, True, BLOCKS_OF[kind])
+def bare_file(kind, blocks=()):
+    """A bare file, by the elements of its blocks. Its replication is not known."""
+    return File(0, True, NoBlocks(kind, [number for block in blocks for number in numbers_of(block, "genstamp", "id", "numBytes")]))
+
+
+def numbers_of(block, *names):
+    """Numbers of a block, of which the id may be negative."""
+    return [number_in(block, name) for name in names]
+
+
+def number_in(block, name):
+    text = block.text_of(name)
+    is_negative = NEGATIVE.fullmatch(text) is not None and int(text) >= -GREATEST_NUMBER - 1
+    return int(text) if is_negative else block.number(name)
 
 
 def word_of(kind):

@@ -2,6 +2,7 @@
 import contextlib
 import json
 import os
+from itertools import chain
 
 from audited import TAKEN, Audited
 from bare import bare_paths
@@ -26,7 +27,7 @@ class Converted:
         self.map = os.path.join(folder, "map")
         header = start.header()
         self.tree = tree = start.tree()
-        self.followed = Followed(tree, start.sets) if start.sets else None
+        self.followed = Followed(tree, start.sets, start.blocks_of_bare(tree)) if start.sets else None
         self.edits = Audited(header["last_gen"], table, start.deep, self.followed)
         # How the log can't be followed, or None.
         self.fault = None
@@ -43,6 +44,9 @@ class Converted:
         if self.edits.has_grown:
             raise Grew
         self.bare = bare_paths(tree)
+        # The blocks of those that are known, one number after another.
+        known = {path: self.followed.blocks_of(tree.find(path)) for path in self.bare} if self.followed else {}
+        self.blocks = {path: list(chain.from_iterable(blocks)) for path, blocks in known.items() if blocks is not None}
         self.edits.passed += ways.passed(TAKEN)
         self.left_out = conversion.left_out
 

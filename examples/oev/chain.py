@@ -23,6 +23,7 @@ REPLICATION = re.compile(rb'"replication":([0-9]{1,3})\b')
 CHUNK_BYTES = 1 << 20
 # An inode has its id and the number of its set.
 INODE_BYTES = array("q").itemsize + array("I").itemsize
+OF_INODES = {"inodes", "sets", "blocks"}
 
 
 class Link(NamedTuple):
@@ -42,6 +43,8 @@ class Link(NamedTuple):
     # How many inodes it has behind its first line, and the sets of attributes that they have, by their numbers.
     inodes: int = 0
     sets: list = ()
+    # The blocks of bare files, of which they are known, one number after another.
+    blocks: dict = {}
     # Whether it was read from a state of the form before.
     is_old: bool = False
 
@@ -146,7 +149,7 @@ def link_of(form, members):
         return Link(**{**members, "bare": dict.fromkeys(members["bare"], UNKNOWN.kind)}, is_old=True)
     if form not in (FORM, FORM_WITHOUT_INODES) or not set(members["bare"].values()) <= BLOCKS_OF.keys():
         raise ValueError
-    if (form == FORM) != ("inodes" in members):
+    if (form == FORM) != bool(OF_INODES & members.keys()):
         raise ValueError
     return Link(**members)
 
@@ -155,7 +158,7 @@ def sum_of(form, link, rest):
     """The SHA-256 of a link and of what it stands before, from where a file is read to its end."""
     members = link.members()
     if form == FORM_WITHOUT_INODES:
-        members = {name: value for name, value in members.items() if name not in ("inodes", "sets")}
+        members = {name: value for name, value in members.items() if name not in OF_INODES}
     found = hashlib.sha256(to_json(members).encode())
     while chunk := rest.read(CHUNK_BYTES):
         found.update(chunk)

@@ -92,8 +92,8 @@ class Checkpoint(Dump):
         for element in (*inode.all("blocks"), *inode.all("file-under-construction"), *blocks):
             self.pass_over(element)
         if is_striped(inode):
-            return bare_file(STRIPED.kind)
-        return bare_file(OLD.kind) if has_old_block(blocks, self.first_gen) else super().file_with_blocks(inode)
+            return bare_file(STRIPED.kind, blocks)
+        return bare_file(OLD.kind, blocks) if has_old_block(blocks, self.first_gen) else super().file_with_blocks(inode)
 
     def set_of(self, element):
         places = element.shape.of(attribute_places)

@@ -33,11 +33,14 @@ class DoesNotApply(Refused):
 
 
 class NoBlocks(tuple):
-    """The blocks of a file that is taken without them: none, and the kind of bare files that it is of."""
+    """The blocks of a file that is taken without them: none, and the kind of bare files that it is of.
 
-    def __new__(cls, kind):
+    An image may say which it has all the same: in `read` are the stamp, the id and the length of each, one after another.
+    """
+
+    def __new__(cls, kind, read=()):
         made = super().__new__(cls)
-        made.kind = kind
+        made.kind, made.read = kind, read
         return made
 
 

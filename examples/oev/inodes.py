@@ -77,10 +77,11 @@ class Inodes:
         self.sets.extend(sets or bytes(len(columns.ids)))
 
     def add_file(self, inode_id, name, file, attributes=0):
-        kind = CLOSED if file.closed else OPEN
+        kind, numbers = CLOSED if file.closed else OPEN, chain.from_iterable(file.blocks)
         if isinstance(file.blocks, NoBlocks):
-            kind, self.bare[len(self)] = BARE, file.blocks
-        self.add(inode_id, name, kind, file.replication, chain.from_iterable(file.blocks), attributes)
+            kind, numbers = BARE, file.blocks.read
+            self.bare[len(self)] = NoBlocks(file.blocks.kind)
+        self.add(inode_id, name, kind, file.replication, numbers, attributes)
 
     def finish(self):
         """Finds out where each id is. Answers the row of an id that came before, or None."""
@@ -105,8 +106,12 @@ class Inodes:
             return None
         if kind == BARE:
             return File(self.replications[row], True, self.bare[row])
+        return File(self.replications[row], kind == CLOSED, self.blocks_of(row))
+
+    def blocks_of(self, row):
+        """The blocks of a file, also of one that is taken without them."""
         numbers = iter(self.blocks[self.block_ends[row] : self.block_ends[row + 1]])
-        return File(self.replications[row], kind == CLOSED, list(map(Block, numbers, numbers, numbers)))
+        return list(map(Block, numbers, numbers, numbers))
 
 
 class RowsOfIds:

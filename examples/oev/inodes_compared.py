@@ -5,15 +5,17 @@ blocks are compared by what the program prints, so a path that only one of the i
 """
 from array import array
 from collections import Counter
+from itertools import zip_longest
 from operator import itemgetter
 
 from attributes import UNKNOWN, XATTR, differing, differing_strictly
+from bare import is_bare
 from formats import PATH_NAMES, to_json
 from inode_ids import Made, inode_of
 from inode_table import Entry, InodeTable, path_by
 from inodes import DIRECTORY, NONE
 from listed import Listed
-from tree import is_directory
+from tree import File, is_directory
 
 
 class Ours:
@@ -29,6 +31,8 @@ class Ours:
         # The entry of each id that the log named, or None of one that is gone; and what inode it is here.
         self.named = {}
         self.inode_at = {}
+        # The blocks of the bare files, by their ids, or None where they are not known.
+        self.bare = {}
 
     def full(self, name):
         """The bytes of the cluster's name for one of the program."""
@@ -49,6 +53,8 @@ class Ours:
                 displaced.append(row)
             if inode is not None:
                 placed[inode] = self.id_of(directory), self.full(name)
+            if isinstance(node, File) and is_bare(node) and inode is not None:
+                self.bare[self.followed.id_of(inode)] = self.followed.blocks_of(node)
         for row in self.gone(displaced, placed):
             self.name(row, None)
         for row in self.followed.changed.keys() - placed.keys():
@@ -179,7 +185,11 @@ class InodesCompared:
         # Of how many inodes something was taken on trust.
         self.trusted = 0
         ours.look(second.ids_at)
-        theirs, sums, self.count = second.inodes(list(ours.named))
+        self.other_blocks = []
+        theirs, sums, self.count, blocks = second.inodes(list(ours.named), list(ours.bare))
+        for (inode_id, mine), found in zip(ours.bare.items(), blocks):
+            if None not in (mine, found) and mine != found:
+                self.other_blocks.append((inode_id, mine, found))
         for one, other in zip(list(ours.named.values()), theirs):
             self.take(one, other)
             if is_kept and one and other:
@@ -205,6 +215,7 @@ class InodesCompared:
         """Tells what differs, but below a path of too many names, where records are left out."""
         ones = self.ours.by_path([one for one, _ in self.differing if one])
         others = self.second.by_path([other for _, other in self.differing if other]) if self.differing else {}
+        self.tell_blocks(differences)
         deep = {entry.id for entries in (ones, others) for path, entry in entries.items() if path.count("/") > PATH_NAMES}
         ones, others = (without(deep, entries) for entries in (ones, others))
         for path in sorted(ones.keys() & others.keys()):
@@ -216,6 +227,18 @@ class InodesCompared:
         # What else differs is told with the paths.
         for path in sorted(ones.keys() | others.keys()) if not differences.count else ():
             differences.tell("inode", to_json(path), *(where[path].id if path in where else "-" for where in (ones, others)))
+
+    def tell_blocks(self, differences):
+        """Tells which blocks of bare files differ."""
+        for inode_id, ours, theirs in self.other_blocks:
+            path = to_json(path_by(self.ours.entry_of, inode_id))
+            for place, pair in enumerate(zip_longest(ours, theirs)):
+                if pair[0] != pair[1]:
+                    differences.tell("block", path, place, *("-" if block is None else f"{block[1]}:{block[0]}:{block[2]}" for block in pair))
+
+    def unknown_blocks(self):
+        """Of how many bare files the blocks are not known."""
+        return sum(blocks is None for blocks in self.ours.bare.values())
 
 
 def without(ids, entries):

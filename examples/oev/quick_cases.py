@@ -177,7 +177,7 @@ def outcome_of_log(data, is_quick, dump):
     file.name = "dump"
     dump.use(Table(), {})
     tree, lines, numbers = ListedTree(dump), io.BytesIO(), io.StringIO()
-    followed = Followed(tree, dump.sets)
+    followed = Followed(tree, dump.sets, {})
     audited = Audited(1001, dump.table, (), followed)
     ways, log = ShortWays(audited), Log(Whole(lines, 2_000), 7, 2, Map(numbers))
     conversion, reason = Conversion(tree, log, (), audited.edits_of, ways.take, audited.behind), None

@@ -105,9 +105,9 @@ class Second:
         """The ids of what the image has at these paths of the program, or NONE."""
         return self.asked("ids_at", paths)
 
-    def inodes(self, ids):
-        """The entry of each of these ids, or None, the sums of all others, and how many inodes there are in all."""
-        places, sets, *rest = self.asked("inodes_of", ids)
+    def inodes(self, ids, bare):
+        """The entry of each of these ids, or None, the sums of all others, how many inodes there are, and the blocks of bare files."""
+        places, sets, *rest = self.asked("inodes_of", ids, bare)
         entries = [place and Entry(one, *place[:2], sets[place[2]]) for one, place in zip(ids, places)]
         return (entries, *rest)
 
@@ -272,13 +272,14 @@ class Side:
         ids = array("q", (row if row == NONE else inodes.ids[row] for row in rows))
         return ids, array("I", (0 if row == NONE else inodes.sets[row] for row in rows)), self.dump.sets.all
 
-    def inodes_of(self, ids):
+    def inodes_of(self, ids, bare):
         table, inodes = self.table_of_inodes, self.dump.inodes
         count = sum(table.is_live)
         rows = [row if row != NONE and table.is_live[row] else None for row in inodes.rows_of(ids)]
         places = [None if row is None else (table.directories[row], inodes.name(row), inodes.sets[row]) for row in rows]
         table.leave_out(row for row in rows if row is not None)
-        return places, self.dump.sets.all, table.sums(), count
+        blocks = [None if row == NONE else tuple(map(tuple, inodes.blocks_of(row))) for row in inodes.rows_of(bare)]
+        return places, self.dump.sets.all, table.sums(), count, blocks
 
     def of_buckets(self, buckets):
         return self.table_of_inodes.of_buckets(buckets)

@@ -37,6 +37,11 @@ class FirstImage:
         """The sets of attributes of its inodes."""
         return self.dump.sets
 
+    def blocks_of_bare(self, _tree):
+        """The blocks of bare files, by their rows."""
+        inodes = self.dump.inodes
+        return {row: tuple(map(tuple, inodes.blocks_of(row))) for row in inodes.bare}
+
     def header(self):
         last_block, last_gen, txid = numbers_of(self.dump)
         return json.loads(image_header(last_block, last_gen, self.dump.awaiting(), txid))
@@ -92,8 +97,8 @@ class KeptImage:
         for piece in self.pieces():
             write(piece)
         if self.has_grown():
-            bare = {self.table.short_again(path): kind for path, kind in self.link.bare.items()}
-            self.link = self.link._replace(bare=bare)
+            bare, blocks = ({self.table.short_again(path): it for path, it in of.items()} for of in (self.link.bare, self.link.blocks))
+            self.link = self.link._replace(bare=bare, blocks=blocks)
 
     def shorten(self):
         """Gives short names in paths that a rename made too long, which the image of then did not have, or was not whole."""
@@ -130,6 +135,10 @@ class KeptImage:
             self.give_inodes(kept)
         self.deep = list(map(self.table.short_again, kept.deep))
         return tree_over(kept, self.link)
+
+    def blocks_of_bare(self, tree):
+        """The blocks of bare files, by their rows."""
+        return {tree.find(path).inode: tuple(zip(*[iter(numbers)] * 3)) for path, numbers in self.link.blocks.items()}
 
     def give_inodes(self, kept):
         """Gives its rows their ids and their sets of attributes."""

@@ -75,12 +75,8 @@ given_behind before answers more others e =
 -- a log that stops goes on stopping
 stops_more : (x : Standby) (answers more others : List Answer) (m : Stop) → given_in others ≡ given_in answers ++ given_in more → LogStops x answers m → LogStops x others m
 stops_more x answers more others m e h past start base before at =
-    let s = h past start base before at in (
-      s.0,
-      s.1,
-      λ later. ap (λ l. end_of_log base start (l ++ later)) (given_behind before answers more others e)
-          ∙ ap (λ l. end_of_log base start l) (append_assoc (given_in (before ++ answers)) (given_in more) later) ∙ s.2 (given_in more ++ later),
-    )
+    λ later. ap (λ l. end_of_log base start (l ++ later)) (given_behind before answers more others e)
+    ∙ ap (λ l. end_of_log base start l) (append_assoc (given_in (before ++ answers)) (given_in more) later) ∙ h past start base before at (given_in more ++ later)
 
 module _ (answers others : List Answer) (same : given_in others ≡ given_in answers) (ended : EndsInEnd others) where
   pub same_behind : (before : List Answer) → given_in (before ++ others) ≡ given_in (before ++ answers)

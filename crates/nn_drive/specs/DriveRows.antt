@@ -2,13 +2,14 @@
 use Rattle.std.specs.Prelude.{◌≡◌, Bool, true, false, [], ◌∷◌, Option, Some, None, map, refl}
 use Rattle.nn_segment.specs.declared.fault.SourceFault.TheVariants.{Gone}
 use Rattle.nn_shadow.specs.declared.fault.Stop.{Stop}
+use Rattle.nn_shadow.specs.declared.fault.StopCause.TheVariants.{Disorder}
 use Rattle.nn_lane_standby.specs.Tailing.{Standby}
 use Rattle.nn_drive.specs.Fault.{number_of}
 use Rattle.nn_drive.specs.Refusals.{drive_refusal}
 use Rattle.nn_drive.specs.declared.driving.DriveFault.TheVariants.{AlreadyActive, Stopped, LogNotEnded, OutOfMemory}
 
 abbrev gap : Stop
-gap = record { txid = 3; number = 57 }
+gap = record { txid = 3; cause = Disorder }
 
 abbrev standby : Standby → Bool → Option Stop → Standby
 standby x begun stop = record x { shadow = record x.shadow { phase = record { stopped = None; active = begun } }; stop = stop }

@@ -21,6 +21,7 @@ use Rattle.nn_segment.specs.declared.source.Item.TheVariants as item
 use Rattle.nn_segment.specs.LogEnd.{LogStop, LogEnd, refused, disorder, go_on, end_of_txs, and_then, end_of_log, end_behind, given_in}
 use Rattle.nn_segment.proofs.Walks.{passed_over, next_taken}
 use Rattle.nn_image.proofs.Round.{reads_back, reads_old_back}
+use Rattle.nn_lane_standby.specs.Tailing.{log_cause}
 use Rattle.nn_lane_standby.specs.RestartLaws.{RestartGoesOn, ReadsAgain, StopsAgain, KeepsStatus, KeepsOldStatus}
 use Rattle.nn_lane_standby.proofs.LogEnds.{no_more, behind_none, behind_gap, behind_segment, behind_applied}
 
@@ -186,22 +187,18 @@ reads_again start base given x s going are later =
 
 pub stops_again : StopsAgain
 stops_again start base given x stop s stopped next are =
-    let stops = s.stops stop stopped in (
-      stops.0,
-      stops.1,
-      λ later.
-          again (given_in given) base start s.txs x.rest x.shadow.last x.shadow.namespace are (record {
-            read = ap (counted base) (txs_given given) ∙ s.log;
-            log = s.shadow.log;
-            at = s.shadow.last;
-            in_it = s.shadow.namespace;
-            gap = λ z here is.
-                let both : Err z ≡ Err (record { cause = stops.0; txid = stop.txid }) = sym here ∙ stops.2 [] in
-                let same : z ≡ record { cause = stops.0; txid = stop.txid } = cc in
-                let txid = ap (λ (q : LogStop). q.txid) same in omega (arith, txid, next, s.shadow.last);
-          }) later
-          ∙ stops.2 later,
-    )
+    let stops = s.stops stop stopped in λ later.
+    again (given_in given) base start s.txs x.rest x.shadow.last x.shadow.namespace are (record {
+      read = ap (counted base) (txs_given given) ∙ s.log;
+      log = s.shadow.log;
+      at = s.shadow.last;
+      in_it = s.shadow.namespace;
+      gap = λ z here is.
+          let both : Err z ≡ Err (record { cause = log_cause stop.cause; txid = stop.txid }) = sym here ∙ stops [] in
+          let same : z ≡ record { cause = log_cause stop.cause; txid = stop.txid } = cc in
+          let txid = ap (λ (q : LogStop). q.txid) same in omega (arith, txid, next, s.shadow.last);
+    }) later
+    ∙ stops later
 
 pub goes_on : RestartGoesOn
 goes_on start base given more x y s t =

@@ -12,6 +12,7 @@ use Rattle.nn_shadow.specs.Laws.{StandsBy}
 use Rattle.nn_shadow.specs.Calls.{with_past}
 use Rattle.nn_lane_standby.specs.Shadows.{ShowsSame, shadow_with_past}
 use Rattle.nn_shadow.specs.declared.fault.Stop.{Stop}
+use Rattle.nn_shadow.specs.declared.fault.StopCause.TheVariants.{Disorder}
 use Rattle.nn_segment.specs.Segment.{Segment, first_txid}
 use Rattle.nn_segment.specs.Source.{Answer, end}
 use Rattle.nn_model.specs.Log.{counted as news}
@@ -19,13 +20,12 @@ use Rattle.nn_segment.specs.Walk.{log_in}
 use Rattle.nn_segment.specs.declared.source.Item.TheVariants.{Segment as segment}
 use Rattle.nn_segment.specs.declared.fault.SourceFault.{SourceFault}
 use Rattle.nn_segment.proofs.Walks.{behind_the_rest, end_adds_nothing, fault_adds_nothing}
-use Rattle.nn_types.specs.declared.fault.TheConstants.{DISORDER}
 use Rattle.nn_model.specs.Apply.{refusal}
-use Rattle.nn_segment.specs.LogEnd.{refused, disorder, end_of_log, end_behind, given_in}
+use Rattle.nn_segment.specs.LogEnd.{end_of_log, end_behind, given_in}
 use Rattle.nn_segment.proofs.Asks.{end_gives_none, fault_gives_none, one_given}
 use Rattle.nn_lane_standby.proofs.LogEnds.{behind_none, behind_gap, behind_segment, behind_applied, behind_refused, same_given, same_way, not_refused}
 use Rattle.nn_lane_standby.proofs.Shadowing.{same_last, same_namespace, applied_last, applied_namespace, handed_last, handed_namespace}
-use Rattle.nn_lane_standby.specs.Tailing.{has_begun, Standby, standby_with_past, StopsLog, Keeps, StandsAt, Carries, lanes_of, handed_all, by_node, undelivered_at, with_undelivered, with_lane, with_shadow, stopping}
+use Rattle.nn_lane_standby.specs.Tailing.{has_begun, Standby, standby_with_past, log_cause, StopsLog, Keeps, StandsAt, Carries, lanes_of, handed_all, by_node, undelivered_at, with_undelivered, with_lane, with_shadow, stopping}
 use Rattle.nn_lane_standby.specs.Parts.{IsLive, AppliesNext, StopsAt, HandsUndelivered, IsAsBefore}
 use Rattle.nn_lane_standby.proofs.Moves.{lanes_grow}
 
@@ -95,7 +95,7 @@ pub record FindsGap (old : Standby) (p : Segment) (m : Stop) (new : Standby) : T
   pub high : old.shadow.last + 1 < first_txid p.txs
   pub none : news old.shadow.last p.txs ≡ []
   pub txid : m.txid ≡ old.shadow.last + 1
-  pub number : m.number ≡ DISORDER
+  pub cause : m.cause ≡ Disorder
   pub now : new ≡ stopping old m
 
 more : (base : ℕ) (given : List Answer) (p : Segment) (txs : List Tx) (last : ℕ) → log_in base given ≡ txs → last ≡ base + length txs → log_in base (given ++ Ok (segment p) ∷ []) ≡ txs ++ news last p.txs
@@ -138,11 +138,9 @@ carries_gap old new p m t = subst (λ z. Carries old (Ok (segment p) ∷ []) z) 
   log = more base given p s.txs old.shadow.last (s.log ∙ ap (λ z. s.txs ++ z) t.was ∙ append_none s.txs) s.shadow.last ∙ ap (λ z. s.txs ++ z) (t.none ∙ sym t.was);
   goes_on = (λ q. absurd (let e : Some m ≡ None = q in cc));
   stops = (λ z q. let e : m ≡ z = cc in subst (λ w. StopsLog start base (given ++ Ok (segment p) ∷ []) w) e (
-    disorder,
-    sym t.number,
-    λ later. from_segment start base given (standby_with_past past old) p later s t.live t.was ∙ behind_gap old.shadow.last old.shadow.namespace p later t.high
-        ∙ ap (λ n. Err (record { cause = disorder; txid = n })) (sym t.txid),
-  ));
+      λ later. from_segment start base given (standby_with_past past old) p later s t.live t.was ∙ behind_gap old.shadow.last old.shadow.namespace p later t.high
+      ∙ (λ j. Err (record { cause = log_cause (sym t.cause j); txid = sym t.txid j }))
+      ));
   ended = not_begun old t.live;
 })
 
@@ -177,13 +175,11 @@ carries_stop old new m l a = subst (λ z. Carries old [] z) (sym a.now) (λ past
   log = same_log base given (s.txs ++ old.rest) s.log;
   goes_on = (λ q. absurd (let e : Some m ≡ None = q in cc));
   stops = (λ z q. let e : m ≡ z = cc in subst (λ w. StopsLog start base (given ++ []) w) e (
-    refused a.fault,
-    sym a.number,
-    λ later. same_given start base given later ∙ s.goes_on l.1 later
-        ∙ ap (λ r. end_behind old.shadow.last old.shadow.namespace r later) a.was
-        ∙ behind_refused old.shadow.last old.shadow.namespace a.tx a.rest later a.fault a.refused
-        ∙ ap (λ n. Err (record { cause = refused a.fault; txid = n })) (sym a.is_txid),
-  ));
+      λ later. same_given start base given later ∙ s.goes_on l.1 later
+      ∙ ap (λ r. end_behind old.shadow.last old.shadow.namespace r later) a.was
+      ∙ behind_refused old.shadow.last old.shadow.namespace a.tx a.rest later a.fault a.refused
+      ∙ (λ j. Err (record { cause = log_cause (sym a.cause j); txid = sym a.is_txid j }))
+      ));
   ended = λ q. not_begun old l (sym a.active ∙ q);
 })
 

@@ -83,7 +83,7 @@ module _ {S : Type 0} (gives : S → Answer → S → Type 0) where
       h.next ∙ ap (λ z. z.last + 1) r.shadow,
       subst (λ z. ShowsSame z new.shadow) r.shadow (subst (λ z. ShowsSame mid.shadow z) (sym (ap (λ z. z.shadow) h.now)) h.same),
       ap (λ z. z.rest) h.now ∙ sym r.rest,
-      inl (h.tx, h.rest, h.fault, r.rest ∙ h.was, ap (λ z. refusal z.namespace h.tx.edit) (sym r.shadow) ∙ h.refused, h.number),
+      inl (h.tx, h.rest, h.fault, r.rest ∙ h.was, ap (λ z. refusal z.namespace h.tx.edit) (sym r.shadow) ∙ h.refused, h.cause),
     ),
   )
   refused_then s t old mid new answers fault.OutOfMemory l asked r h = (
@@ -110,7 +110,7 @@ module _ {S : Type 0} (gives : S → Answer → S → Type 0) where
       let q : Ok (segment h.0) ∷ [] ≡ r ∷ [] = ap (λ q. q ∷ []) (sym h.1) in (
         r ∷ [],
         asked_one gives s t r g,
-        subst (λ rs. Carries old rs new) q (carries_gap old new h.0 m (record { live = l; was = e; high = h.2; none = h.3; txid = h.4; number = h.5; now = h.6 })),
+        subst (λ rs. Carries old rs new) q (carries_gap old new h.0 m (record { live = l; was = e; high = h.2; none = h.3; txid = h.4; cause = h.5; now = h.6 })),
         subst (SameLanes old) (sym h.6) (record { ends = refl; undelivered = refl; begun = refl; active = refl; settings = settings_same old.shadow }),
         (ap (λ z. z.stop) h.6, h.4, subst (λ z. ShowsSame old.shadow z) (sym (ap (λ z. z.shadow) h.6)) (nothing_new old.shadow), ap (λ z. z.rest) h.6 ∙ e ∙ sym h.3 ∙ ap (in_hand old) q, inr (h.0, sym q, h.2, h.5)),
       )

@@ -4,8 +4,8 @@ use Rattle.nn_model.specs.Namespace.{Namespace}
 use Rattle.nn_shadow.specs.declared.fault.Stop.{Stop}
 use Rattle.nn_segment.specs.Segment.{Segment}
 use Rattle.nn_segment.specs.Source.{Answer, given, end, AreAnswersOf}
-use Rattle.nn_segment.specs.LogEnd.{StopCause, stop_number, LogEnd, end_of_log, given_in}
-use Rattle.nn_lane_standby.specs.Tailing.{StopsLog, EndsInEnd}
+use Rattle.nn_segment.specs.LogEnd.{LogEnd, end_of_log, given_in}
+use Rattle.nn_lane_standby.specs.Tailing.{log_cause, StopsLog, EndsInEnd}
 
 end_first : (a : Answer) (answers : List Answer) → a ≡ end → given_in (a ∷ answers) ≡ given_in answers
 end_first a answers q = ap (λ z. given_in (z ∷ answers)) q
@@ -39,5 +39,5 @@ module _ (start : Namespace) (base : ℕ) (segments : List Segment) (answers : L
       let all : given_in answers ≡ segments = ap given_in ended.1 ∙ all_given segments ended.0 (subst (AreAnswersOf segments) ended.1 in_order) in
       ap (end_of_log base start) (sym all) ∙ is
 
-  pub stopped_at : (s : Stop) → StopsLog start base answers s → (cause : StopCause) × (stop_number cause ≡ s.number) × (end_of_log base start segments ≡ Err (record { cause = cause; txid = s.txid }))
-  stopped_at s h = let f = prefix segments answers in_order in (h.0, h.1, ap (end_of_log base start) (sym f.1) ∙ h.2 f.0)
+  pub stopped_at : (s : Stop) → StopsLog start base answers s → end_of_log base start segments ≡ Err (record { cause = log_cause s.cause; txid = s.txid })
+  stopped_at s h = let f = prefix segments answers in_order in ap (end_of_log base start) (sym f.1) ∙ h f.0

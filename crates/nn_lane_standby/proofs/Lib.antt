@@ -19,6 +19,7 @@ pub mod Fresh
 pub mod Closed
 pub mod Gaps
 pub mod InOrder
+pub mod Numbered
 pub mod Refusing
 pub mod Again
 pub mod PromotedRows

@@ -87,7 +87,7 @@ over_asked x y r fault.BadLane l n h = absurd h
 over_asked x y r fault.OutOfMemory l n h = absurd h
 over_asked x y r (fault.LogNotEnded f) l n h = (carries_bare x y r (Err f) l h.0 (fault_adds_none f) h.1, subst (SameLanes x) (sym h.1) (lanes_same x), (ap (λ z. z.stop) h.1 ∙ l.1, ([], ap (λ q. q ∷ []) h.0)))
 over_asked x y r (fault.Stopped m) l n h = (
-  subst (λ rs. Carries x rs y) (ap (λ q. q ∷ []) (sym h.1)) (carries_gap x y h.0 m (record { live = l; was = n; high = h.2; none = h.3; txid = h.4; number = h.5; now = h.6 })),
+  subst (λ rs. Carries x rs y) (ap (λ q. q ∷ []) (sym h.1)) (carries_gap x y h.0 m (record { live = l; was = n; high = h.2; none = h.3; txid = h.4; cause = h.5; now = h.6 })),
   subst (SameLanes x) (sym h.6) (record { ends = refl; undelivered = refl; begun = refl; active = refl; settings = settings_same x.shadow }),
   (ap (λ z. z.stop) h.6, h.4 ∙ ap (λ n. n + 1) (sym (ap (λ z. z.shadow.last) h.6))),
 )

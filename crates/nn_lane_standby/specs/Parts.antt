@@ -3,10 +3,10 @@ use Rattle.std.specs.Prelude.{◌≡◌, ℕ, ◌+◌, true, false, List, ◌∷
 use Rattle.nn_types.specs.declared.report.Message.{Message}
 use Rattle.nn_types.specs.declared.tx.Tx.{Tx}
 use Rattle.nn_types.specs.declared.edit_fault.EditFault.{EditFault}
-use Rattle.nn_types.specs.EditFault.{number_of}
 use Rattle.nn_model.specs.Apply.{refusal}
 use Rattle.nn_lane.specs.Ends.{LaneEnd, lane_of, loads_of, known_count, StaysCounted}
 use Rattle.nn_shadow.specs.declared.fault.Stop.{Stop}
+use Rattle.nn_shadow.specs.declared.fault.StopCause.TheVariants.{Refused}
 use Rattle.nn_shadow.specs.Contents.{Shadow}
 use Rattle.nn_lane_standby.specs.Shadows.{ShowsSame, IsApplied, IsHanded}
 use Rattle.nn_lane_standby.specs.declared.fault.StepFault.{StepFault}
@@ -35,7 +35,7 @@ pub record StopsAt (old : Standby) (s : Stop) (new : Standby) : Type 0 where
   pub refused : refusal old.shadow.namespace tx.edit ≡ Some fault
   pub next : s.txid ≡ old.shadow.last + 1
   pub is_txid : s.txid ≡ tx.txid
-  pub number : s.number ≡ number_of fault
+  pub cause : s.cause ≡ Refused fault
   pub same : ShowsSame old.shadow shown
   pub active : shown.phase.active ≡ old.shadow.phase.active
   pub now : new ≡ stopping (with_shadow old shown) s

@@ -25,6 +25,7 @@ use Rattle.nn_segment.specs.Segment.{Segment}
 use Rattle.nn_segment.specs.Source.{given, end}
 use Rattle.nn_segment.specs.LogEnd.{end_of_log, end_of_txs, disorder}
 use Rattle.nn_shadow.specs.declared.fault.Stop.{Stop}
+use Rattle.nn_shadow.specs.declared.fault.StopCause.TheVariants.{Disorder}
 use Rattle.nn_shadow.specs.Calls.{applied_to, received, flushed}
 use Rattle.nn_shadow.specs.Contents.{Shadow, standby_of}
 use Rattle.nn_shadow.specs.Laws.{StandsBy}
@@ -194,7 +195,7 @@ abbrev high : Segment
 high = record { name = []; bytes = []; txs = tx 2 (StartSegment One) ∷ [] }
 
 abbrev gap : Stop
-gap = record { txid = 1; number = 57 }
+gap = record { txid = 1; cause = Disorder }
 
 abbrev stopped : LaneId → Standby
 stopped l = record (new l) { stop = Some gap }
@@ -207,7 +208,7 @@ stopped_stands l = record {
   before_flush = λ _. refl;
   log = refl;
   goes_on = λ e. absurd (cc);
-  stops = λ s e. let same : gap ≡ s = cc in subst (StopsLog root_alone 0 (given high ∷ [])) same (disorder, refl, λ later. refl);
+  stops = λ s e. let same : gap ≡ s = cc in subst (StopsLog root_alone 0 (given high ∷ [])) same (λ later. refl);
   ended = λ e. absurd (cc);
 }
 

@@ -9,7 +9,6 @@ use Rattle.nn_types.specs.declared.event.Event.TheVariants.{Processed}
 use Rattle.nn_types.specs.declared.event.Cause.TheVariants.{Flush}
 use Rattle.nn_types.specs.declared.tx.Tx.{Tx}
 use Rattle.nn_types.specs.declared.edit_fault.EditFault.{EditFault}
-use Rattle.nn_types.specs.EditFault.{number_of}
 use Rattle.nn_model.specs.Apply.{refusal}
 use Rattle.nn_model.specs.Log.{counted}
 use Rattle.nn_model.specs.Namespace.{Namespace, root_alone}
@@ -21,6 +20,7 @@ use Rattle.nn_segment.specs.declared.fault.SourceFault.TheVariants.{Gone}
 use Rattle.nn_segment.specs.declared.source.Item.TheVariants as item
 use Rattle.nn_lane.specs.Ends.{LaneId, LaneEnd}
 use Rattle.nn_shadow.specs.declared.fault.Stop.{Stop}
+use Rattle.nn_shadow.specs.declared.fault.StopCause.TheVariants.{Refused, Disorder}
 use Rattle.nn_lane_standby.specs.declared.standby.Choice.{Choice}
 use Rattle.nn_lane_standby.specs.declared.standby.Choice.TheVariants.{Edit, Lane}
 use Rattle.nn_lane_standby.specs.declared.standby.Stepped.TheVariants as stepped
@@ -54,7 +54,7 @@ abbrev marks : ℕ → Segment
 marks txid = segment (start txid ∷ last (txid + 1) ∷ [])
 
 abbrev gap : Stop
-gap = record { txid = 4; number = 57 }
+gap = record { txid = 4; cause = Disorder }
 
 -- the end of a lane of DataNode 1, closed or open, which took these
 abbrev taking : LaneId → List Message → ℕ → Bool → LaneEnd
@@ -104,8 +104,8 @@ not_in_hand_behind_a_gap x h = let e : 5 ≡ 4 = h.next.0 in omega (arith, e)
 not_stopped_below_alone : (x : Standby) → Keeps (record (at_three x false) { shadow = record x.shadow { phase = record { stopped = Some gap; active = false } } }) → ⊥
 not_stopped_below_alone x h = let e : Some gap ≡ None = h.live refl in cc
 
-not_stopped_elsewhere : (x : Standby) → Keeps (record (at_three x false) { stop = Some (record { txid = 7; number = 57 }) }) → ⊥
-not_stopped_elsewhere x h = let e : 7 ≡ 4 = h.stops (record { txid = 7; number = 57 }) refl in omega (arith, e)
+not_stopped_elsewhere : (x : Standby) → Keeps (record (at_three x false) { stop = Some (record { txid = 7; cause = Disorder }) }) → ⊥
+not_stopped_elsewhere x h = let e : 7 ≡ 4 = h.stops (record { txid = 7; cause = Disorder }) refl in omega (arith, e)
 
 not_stopped_in_its_flush : (x : Standby) → Keeps (record (at_three x true) { stop = Some gap }) → ⊥
 not_stopped_in_its_flush x h = let e : Some gap ≡ None = h.begun_live refl in cc
@@ -146,7 +146,7 @@ not_unstopped_at_a_gap x h = no_end (record { cause = disorder; txid = 4 }) (rec
 -- and nothing else does
 not_stopped_with_no_cause : (x : Standby) → StandsAt root_alone 3 [] (record (at_three x false) { stop = Some gap }) → ⊥
 unfolding end_of_log end_of_txs
-not_stopped_with_no_cause x h = let why = h.stops gap refl in no_end (record { cause = why.0; txid = 4 }) (record { last = 3; namespace = root_alone }) (sym (why.2 []))
+not_stopped_with_no_cause x h = no_end (record { cause = disorder; txid = 4 }) (record { last = 3; namespace = root_alone }) (sym (h.stops gap refl []))
 
 -- the flush begins once the log has ended, and all lanes are closed and taken
 not_flushing_before_the_end : (x : Standby) → StandsAt root_alone 3 [] (at_three x true) → ⊥
@@ -220,10 +220,10 @@ begins_too_high x = inr (marks 5, refl, omega arith, refl)
 not_stopped_by_the_next : (x : Standby) → IsCause (record (at_three x false) { shadow = record (at_three x false).shadow { namespace = root_alone } }) (given (marks 4) ∷ []) gap → ⊥
 not_stopped_by_the_next x h = ⊎_elim refused high h
   where
-    refused : (tx : Tx) × (rest : List Tx) × (f : EditFault) × (start 4 ∷ last 5 ∷ [] ≡ tx ∷ rest) × (refusal root_alone tx.edit ≡ Some f) × (◌≡◌ {A = ℕ} 57 (number_of f)) → ⊥
+    refused : (tx : Tx) × (rest : List Tx) × (f : EditFault) × (start 4 ∷ last 5 ∷ [] ≡ tx ∷ rest) × (refusal root_alone tx.edit ≡ Some f) × (Disorder ≡ Refused f) → ⊥
     refused k = let e : start 4 ≡ k.0 = cc in let none : None ≡ Some k.2 = ap (λ (tx : Tx). refusal root_alone tx.edit) e ∙ k.4 in cc
 
-    high : (p : Segment) × (given (marks 4) ∷ [] ≡ given p ∷ []) × (4 < first_txid p.txs) × (◌≡◌ {A = ℕ} 57 57) → ⊥
+    high : (p : Segment) × (given (marks 4) ∷ [] ≡ given p ∷ []) × (4 < first_txid p.txs) × (Disorder ≡ Disorder) → ⊥
     high k = let e : marks 4 ≡ k.0 = cc in let n = ap (λ (p : Segment). first_txid p.txs) e in omega (arith, n, k.2)
 
 -- ---- A step as callers see it.

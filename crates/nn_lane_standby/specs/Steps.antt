@@ -6,6 +6,7 @@ use Rattle.nn_model.specs.Apply.{refusal}
 use Rattle.nn_shadow.specs.Contents.{standby_of, KeepsSettings}
 use Rattle.nn_shadow.specs.Calls.{applied_to}
 use Rattle.nn_shadow.specs.declared.fault.Stop.{Stop}
+use Rattle.nn_shadow.specs.declared.fault.StopCause.TheVariants.{Refused, Disorder}
 use Rattle.nn_segment.specs.Segment.{Segment, first_txid}
 use Rattle.nn_segment.specs.Source.{Answer, Asked}
 use Rattle.nn_model.specs.Log.{counted as news}
@@ -17,8 +18,6 @@ use Rattle.nn_lane_standby.specs.declared.standby.Stepped.TheVariants as stepped
 use Rattle.nn_lane_standby.specs.declared.fault.StepFault.{StepFault}
 use Rattle.nn_lane_standby.specs.declared.fault.StepFault.TheVariants as fault
 use Rattle.nn_lane_standby.specs.Tailing.{has_begun, Standby, Carries, with_rest, stopping}
-use Rattle.nn_types.specs.declared.fault.TheConstants.{DISORDER}
-use Rattle.nn_types.specs.EditFault.{number_of}
 use Rattle.nn_lane_standby.specs.Shadows.{ShowsSame}
 
 -- The source was asked once, and this is what came of it: of a segment what counts is in hand; a segment that begins too high stops the
@@ -29,7 +28,7 @@ OnceAsked old r new (Ok taken_up.Old) = (p : Segment) × (r ≡ Ok (segment p)) 
 OnceAsked old r new (Ok taken_up.New) = (p : Segment) × (r ≡ Ok (segment p)) × (first_txid p.txs ≤ old.shadow.last + 1) × (news old.shadow.last p.txs ≢ []) × (new ≡ with_rest old (news old.shadow.last p.txs))
 OnceAsked old r new (Ok taken_up.Disorder) = ⊥
 OnceAsked old r new (Err (fault.Stopped s)) =
-    (p : Segment) × (r ≡ Ok (segment p)) × (old.shadow.last + 1 < first_txid p.txs) × (news old.shadow.last p.txs ≡ []) × (s.txid ≡ old.shadow.last + 1) × (s.number ≡ DISORDER) × (new ≡ stopping old s)
+    (p : Segment) × (r ≡ Ok (segment p)) × (old.shadow.last + 1 < first_txid p.txs) × (news old.shadow.last p.txs ≡ []) × (s.txid ≡ old.shadow.last + 1) × (s.cause ≡ Disorder) × (new ≡ stopping old s)
 OnceAsked old r new (Err (fault.LogNotEnded f)) = (r ≡ Err f) × (new ≡ old)
 OnceAsked old r new (Err fault.AlreadyActive) = ⊥
 OnceAsked old r new (Err fault.BadLane) = ⊥
@@ -63,8 +62,8 @@ IsEdited old answers new (stepped.Empty accepted) = ⊥
 -- why the standby stops: the next edit is refused, or the segment begins too high
 abbrev pub IsCause : Standby → List Answer → Stop → Type 0
 IsCause old answers s =
-    ((tx : Tx) × (rest : List Tx) × (f : EditFault) × (in_hand old answers ≡ tx ∷ rest) × (refusal old.shadow.namespace tx.edit ≡ Some f) × (s.number ≡ number_of f))
-    ⊎ ((p : Segment) × (answers ≡ Ok (segment p) ∷ []) × (old.shadow.last + 1 < first_txid p.txs) × (s.number ≡ DISORDER))
+    ((tx : Tx) × (rest : List Tx) × (f : EditFault) × (in_hand old answers ≡ tx ∷ rest) × (refusal old.shadow.namespace tx.edit ≡ Some f) × (s.cause ≡ Refused f))
+    ⊎ ((p : Segment) × (answers ≡ Ok (segment p) ∷ []) × (old.shadow.last + 1 < first_txid p.txs) × (s.cause ≡ Disorder))
 
 abbrev pub NotEdited : Standby → List Answer → Standby → StepFault → Type 0
 NotEdited old answers new fault.AlreadyActive = ⊥

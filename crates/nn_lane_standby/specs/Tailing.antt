@@ -10,12 +10,14 @@ use Rattle.nn_model.specs.Log.{CountsUp}
 use Rattle.nn_model.specs.History.{History, IsBeforeFlush}
 use Rattle.nn_model.specs.Stands.{Stands}
 use Rattle.nn_shadow.specs.declared.fault.Stop.{Stop}
+use Rattle.nn_shadow.specs.declared.fault.StopCause.{StopCause}
+use Rattle.nn_shadow.specs.declared.fault.StopCause.TheVariants.{Refused, Disorder}
 use Rattle.nn_shadow.specs.Contents.{Shadow, standby_of, last_number_in}
 use Rattle.nn_lane_standby.specs.Shadows.{shadow_with_past}
 use Rattle.nn_segment.specs.Source.{Answer, end}
 use Rattle.nn_segment.specs.Segment.{Segment}
 use Rattle.nn_segment.specs.Walk.{log_in}
-use Rattle.nn_segment.specs.LogEnd.{StopCause, stop_number, LogStop, LogEnd, end_of_log, end_behind, given_in}
+use Rattle.nn_segment.specs.LogEnd.{StopCause as LogCause, refused, disorder, LogStop, LogEnd, end_of_log, end_behind, given_in}
 
 pub record Standby : Type 0 where
   pub shadow : Shadow
@@ -86,10 +88,14 @@ AllTaken (e ∷ es) (k ∷ ks) = (e.closed ≡ true) × (k ≡ None) × (length 
 abbrev pub way_on : Standby → List Segment → Result LogEnd LogStop
 way_on x later = end_behind x.shadow.last x.shadow.namespace x.rest later
 
+-- the cause of a standby's stop, as one of its log's
+abbrev pub log_cause : StopCause → LogCause
+log_cause (Refused fault) = refused fault
+log_cause Disorder = disorder
+
 -- the log of what was given stops with this, whatever segments come later
 abbrev pub StopsLog : Namespace → ℕ → List Answer → Stop → Type 0
-StopsLog start base given s =
-    (cause : StopCause) × (stop_number cause ≡ s.number) × ((later : List Segment) → end_of_log base start (given_in given ++ later) ≡ Err (record { cause = cause; txid = s.txid }))
+StopsLog start base given s = (later : List Segment) → end_of_log base start (given_in given ++ later) ≡ Err (record { cause = log_cause s.cause; txid = s.txid })
 
 -- The standby stands at its base, at what the sources answered so far, and at the messages that were handed on:
 -- its Shadow stands at the first part of the log of all segments given, and the rest of that log is in hand. Whatever

@@ -4,6 +4,8 @@ use Rattle.std.proofs.Common.{arith, ap}
 use Rattle.std.proofs.lemmas.Bool.{both_ways}
 use Rattle.nn_types.specs.declared.report.Message.{Message}
 use Rattle.nn_types.specs.declared.report.Kind.TheVariants.{Received}
+use Rattle.nn_types.specs.declared.edit_fault.EditFault.TheVariants.{Missing}
+use Rattle.nn_segment.specs.LogEnd.{refused, disorder}
 use Rattle.nn_segment.specs.Source.{end}
 use Rattle.nn_segment.specs.declared.fault.SourceFault.TheVariants.{Gone}
 use Rattle.nn_lane.specs.Ends.{LaneId, LaneEnd}
@@ -11,8 +13,9 @@ use Rattle.nn_lane_standby.specs.declared.standby.Choice.TheVariants.{Edit, Lane
 use Rattle.nn_lane_standby.specs.declared.standby.Stepped.TheVariants.{Handed, Empty}
 use Rattle.nn_lane_standby.specs.LaneSteps.{ClosesEnd, CloseEnds, LookedOnce, LaneMoves}
 use Rattle.nn_lane_standby.specs.Refusals.{step_refusal, promote_refusal}
-use Rattle.nn_lane_standby.specs.Tailing.{Standby, handed, handed_all, by_node, EndsInEnd, AllTaken}
+use Rattle.nn_lane_standby.specs.Tailing.{Standby, handed, handed_all, by_node, log_cause, EndsInEnd, AllTaken}
 use Rattle.nn_lane_standby.specs.Reads.{EndsInFault}
+use Rattle.nn_shadow.specs.declared.fault.StopCause.TheVariants.{Refused, Disorder}
 use Rattle.nn_lane_standby.specs.Fault.{number_of_step, number_of_promotion}
 use Rattle.nn_lane_standby.specs.declared.fault.StepFault.TheVariants.{AlreadyActive, Stopped, BadLane, LogNotEnded, OutOfMemory}
 use Rattle.nn_lane_standby.specs.declared.fault.PromoteFault.TheVariants as promotion
@@ -65,7 +68,10 @@ not_taken l taken = let e : 1 ≡ 2 = taken.2 in omega (arith, e)
 undelivered_still : (l : LaneId) → AllTaken (taking l (first ∷ []) 1 true ∷ []) (Some first ∷ []) → ⊥
 undelivered_still l taken = let e : Some first ≡ None = taken.1 in absurd (cc)
 
-numbers_of_steps : map number_of_step (AlreadyActive ∷ Stopped (record { txid = 3; number = 57 }) ∷ BadLane ∷ LogNotEnded Gone ∷ OutOfMemory ∷ []) ≡ 53 ∷ 51 ∷ 56 ∷ 54 ∷ 55 ∷ []
+causes_of_logs : map log_cause (Refused Missing ∷ Disorder ∷ []) ≡ refused Missing ∷ disorder ∷ []
+causes_of_logs = refl
+
+numbers_of_steps : map number_of_step (AlreadyActive ∷ Stopped (record { txid = 3; cause = Disorder }) ∷ BadLane ∷ LogNotEnded Gone ∷ OutOfMemory ∷ []) ≡ 53 ∷ 51 ∷ 56 ∷ 54 ∷ 55 ∷ []
 numbers_of_steps = refl
 
 numbers_of_promotions : map number_of_promotion (promotion.AlreadyActive ∷ promotion.IntakeOpen ∷ promotion.Step OutOfMemory ∷ []) ≡ 53 ∷ 52 ∷ 55 ∷ []
@@ -78,7 +84,7 @@ abbrev serving : Standby → List LaneEnd → Standby
 serving x ends = record x { shadow = record x.shadow { phase = record { stopped = None; active = false } }; ends = ends; stop = None; active = false }
 
 abbrev stopped : Standby → Standby
-stopped x = record x { stop = Some (record { txid = 3; number = 57 }) }
+stopped x = record x { stop = Some (record { txid = 3; cause = Disorder }) }
 
 abbrev flushing : Standby → Standby
 flushing x = record x { shadow = record x.shadow { phase = record { stopped = None; active = true } } }
@@ -87,7 +93,7 @@ no_such_datanode : (x : Standby) (l : LaneId) → let y = serving x (taking l []
     map (step_refusal y) (Edit ∷ Lane 0 ∷ Lane 1 ∷ Lane 2 ∷ []) ≡ None ∷ Some BadLane ∷ None ∷ Some BadLane ∷ []
 no_such_datanode x l = refl
 
-stop_before_no_datanode : (x : Standby) → map (step_refusal (stopped (serving x []))) (Edit ∷ Lane 1 ∷ []) ≡ Some (Stopped (record { txid = 3; number = 57 })) ∷ Some (Stopped (record { txid = 3; number = 57 })) ∷ []
+stop_before_no_datanode : (x : Standby) → map (step_refusal (stopped (serving x []))) (Edit ∷ Lane 1 ∷ []) ≡ Some (Stopped (record { txid = 3; cause = Disorder })) ∷ Some (Stopped (record { txid = 3; cause = Disorder })) ∷ []
 stop_before_no_datanode x = refl
 
 active_before_all : (x : Standby) → step_refusal (flushing (stopped (serving x []))) (Lane 1) ≡ Some AlreadyActive
@@ -97,7 +103,7 @@ open_lane : (x : Standby) (l : LaneId) → map (λ closed. promote_refusal (serv
 open_lane x l = refl
 
 stop_before_open_lane : (x : Standby) (l : LaneId)
-    → promote_refusal (stopped (serving x (taking l [] 0 false ∷ []))) ≡ Some (promotion.Step (Stopped (record { txid = 3; number = 57 })))
+    → promote_refusal (stopped (serving x (taking l [] 0 false ∷ []))) ≡ Some (promotion.Step (Stopped (record { txid = 3; cause = Disorder })))
 stop_before_open_lane x l = refl
 
 promoted_before_stop : (x : Standby) → promote_refusal (record (stopped x) { active = true }) ≡ Some promotion.AlreadyActive

@@ -14,6 +14,7 @@ use Rattle.nn_listing.specs.Listing.{path_json, path_line}
 use Rattle.nn_listing.specs.Summary.{Summary, line, summary_text}
 use Rattle.nn_listing.specs.Tables.{datanodes, replica_text, replica_lines_by, order_text, order_lines_by, blocks_line}
 use Rattle.nn_shadow.specs.declared.fault.Stop.{Stop}
+use Rattle.nn_shadow.specs.Numbers.{number_of_stop}
 
 abbrev pub and_number : List ℕ → ℕ → List ℕ
 and_number text n = text ++ codes " " ++ decimal n
@@ -42,7 +43,7 @@ pub record Figures : Type 0 where
 
 -- an active service is deposed once a greater epoch was named than that of its promotion
 abbrev pub state_answer : Option Stop → Bool → Bool → List ℕ
-state_answer (Some stop) active deposed = and_number (and_number (codes "stopped") stop.number) stop.txid
+state_answer (Some stop) active deposed = and_number (and_number (codes "stopped") (number_of_stop stop.cause)) stop.txid
 state_answer None true true = codes "deposed"
 state_answer None true false = codes "active"
 state_answer None false deposed = codes "standby"

@@ -105,7 +105,7 @@ pub(crate) fn put_state<W: Write>(
             page,
             writer,
             "state stopped",
-            u64::from(stop.number),
+            u64::from(stop.cause.number()),
             stop.txid.get(),
         ),
         None => put_text(page, writer, "state", state_word(active, deposed)),

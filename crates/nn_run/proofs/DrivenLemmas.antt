@@ -19,7 +19,7 @@ use Rattle.nn_segment.specs.Source.{AreAnswersOf, GivesNext}
 use Rattle.nn_segment.specs.Walk.{log_in}
 use Rattle.nn_segment.proofs.Asks.{in_order, segments_given}
 use Rattle.nn_shadow.specs.Contents.{Shadow, standby_of}
-use Rattle.nn_lane_standby.specs.Tailing.{Standby, by_node, has_begun}
+use Rattle.nn_lane_standby.specs.Tailing.{Standby, by_node, has_begun, log_cause}
 use Rattle.nn_lane_standby.proofs.InOrder.{all_given, promoted_at_end, stopped_at}
 use Rattle.nn_drive.specs.Driven.{NotDriven, IsDriven, IsLaneTaken, IsTold}
 use Rattle.nn_drive.specs.NewLanes.{HaveLanes}
@@ -28,11 +28,10 @@ use Rattle.nn_drive.proofs.Sends.{sent_long}
 use Rattle.nn_drive.specs.declared.driving.DriveFault.{DriveFault}
 use Rattle.nn_drive.specs.declared.driving.DriveFault.TheVariants as drive
 use Rattle.nn_lane_standby.specs.declared.standby.Active.{Active}
-use Rattle.nn_run.specs.InMemory.{GivesReport, AreInMemory, IsBegun, MayEnd, TellsStop, cause_by, refusal_of}
+use Rattle.nn_run.specs.InMemory.{GivesReport, AreInMemory, IsBegun, MayEnd, TellsStop}
 use Rattle.nn_run.specs.Start.{Start}
 use Rattle.nn_run.specs.declared.engine.Options.{Options}
-use Rattle.nn_run.specs.Output.{Printed, after_log, log_fault, with_history}
-use Rattle.nn_run.proofs.FailureLemmas.{cause_told}
+use Rattle.nn_run.specs.Output.{Printed, after_log, with_history}
 use Rattle.nn_run.proofs.ToldLemmas.{is_fault}
 use Rattle.nn_run.specs.Shown.{HasFlushed, IsFaultOf, with_settings}
 
@@ -195,7 +194,7 @@ module _ (settings : Settings) (count : ℕ) (lanes : Lanes) (sources : List (Li
   stop_told options (drive.Stopped s) p h t =
       let order = in_order segments h.0 h.1.0 h.1.1 in
       let w = stopped_at start.namespace start.txid segments h.1.0 order s (h.1.2 [] start.namespace start.txid [] new.stands) in
-      is_fault options lanes (end_of_log start.txid start.namespace segments) (record { cause = w.0; txid = s.txid }) p w.2 (t ∙ ap (λ cause. log_fault (record { cause = cause; txid = s.txid })) (ap (λ n. cause_by (refusal_of n)) (sym w.1) ∙ cause_told w.0))
+      is_fault options lanes (end_of_log start.txid start.namespace segments) (record { cause = log_cause s.cause; txid = s.txid }) p w t
   stop_told options (drive.LogNotEnded f) p h t = absurd t
   stop_told options drive.OutOfMemory p h t = absurd t
 

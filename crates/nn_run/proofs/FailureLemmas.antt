@@ -3,13 +3,10 @@ use Rattle.std.proofs.Common.{◌≡◌, ◌∷◌, ◌++◌, ◌∙◌, [], ref
 use Rattle.std.specs.Prelude.{codes, decimal}
 use Rattle.std.specs.Fmt.{digits}
 use Rattle.nn_bytes.specs.Lines.{line_feed}
-use Rattle.nn_types.specs.declared.edit_fault.EditFault.TheVariants as edit
 use Rattle.nn_input.specs.declared.fault.InputFault.TheVariants as input
 use Rattle.nn_image.specs.declared.fault.ImageFault.TheVariants as image
-use Rattle.nn_segment.specs.LogEnd.{StopCause, disorder, refused, stop_number}
 use Rattle.nn_run.specs.Errors.{error_line}
 use Rattle.nn_run.specs.Following.{stop_of}
-use Rattle.nn_run.specs.InMemory.{cause_by, refusal_of}
 use Rattle.nn_run.specs.Output.{log_fault}
 use Rattle.nn_run.specs.Pieces.{place_before_words, place_of, failure_words}
 use Rattle.nn_run.specs.Run.{failed, number_of}
@@ -21,25 +18,6 @@ use Rattle.nn_run.specs.declared.follower.LogFault.TheVariants as stop
 pub failed_stop : (fault : LogFault) → failed (failure.Log fault) ≡ log_fault (stop_of fault)
 failed_stop (stop.Refused fault txid) = refl
 failed_stop (stop.Disorder txid) = refl
-
--- the number of a stop tells its cause
-pub cause_told : (cause : StopCause) → cause_by (refusal_of (stop_number cause)) ≡ cause
-unfolding refusal_of
-cause_told (refused edit.Exists) = refl
-cause_told (refused edit.Missing) = refl
-cause_told (refused edit.NotDirectory) = refl
-cause_told (refused edit.NotFile) = refl
-cause_told (refused edit.IsRoot) = refl
-cause_told (refused edit.IntoItself) = refl
-cause_told (refused edit.NotOpen) = refl
-cause_told (refused edit.WrongBlocks) = refl
-cause_told (refused edit.BadGeneration) = refl
-cause_told (refused edit.BadBlockId) = refl
-cause_told (refused edit.BadReplication) = refl
-cause_told (refused edit.NotClosed) = refl
-cause_told (refused edit.LowerProfile) = refl
-cause_told (refused edit.OutOfMemory) = refl
-cause_told disorder = refl
 
 -- ---- The pieces of the lines.
 

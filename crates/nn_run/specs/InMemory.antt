@@ -1,5 +1,5 @@
 -- Reports in memory, DataNode by DataNode, and what a drive over them may end with.
-use Rattle.std.specs.Prelude.{◌≡◌, ◌≤◌, ◌==◌, ℕ, ◌+◌, ◌-◌, ◌^◌, if◌then◌else◌, List, [], ◌∷◌, ◌++◌, length, Option, Some, None, slice_index_or, slice_set}
+use Rattle.std.specs.Prelude.{◌≡◌, ◌≤◌, ℕ, ◌+◌, ◌-◌, ◌^◌, List, [], ◌∷◌, ◌++◌, length, Option, Some, None, slice_index_or, slice_set}
 use Rattle.nn_types.specs.declared.report.Message.{Message}
 use Rattle.nn_types.specs.declared.report.Report.{Report}
 use Rattle.nn_drive.specs.Reports.{sent_after}
@@ -9,12 +9,7 @@ use Rattle.nn_model.specs.Lanes.{Lanes}
 use Rattle.nn_scenario.specs.declared.steps.Step.{Step}
 use Rattle.nn_scenario.specs.declared.steps.Step.TheVariants as step
 use Rattle.nn_lane.specs.Ends.{LaneEnd}
-use Rattle.nn_lane_standby.specs.Tailing.{Standby, StandsAt}
-use Rattle.nn_types.specs.declared.edit_fault.EditFault.{EditFault}
-use Rattle.nn_types.specs.declared.edit_fault.EditFault.TheVariants as edit
-use Rattle.nn_types.specs.declared.fault.TheConstants.{EXISTS, MISSING, NOT_DIRECTORY, NOT_FILE, IS_ROOT, INTO_ITSELF, NOT_OPEN, WRONG_BLOCKS}
-use Rattle.nn_types.specs.declared.fault.TheConstants.{BAD_GENERATION, BAD_BLOCK_ID, BAD_REPLICATION, NOT_CLOSED, LOWER_PROFILE, MEMORY}
-use Rattle.nn_segment.specs.LogEnd.{StopCause, disorder, refused}
+use Rattle.nn_lane_standby.specs.Tailing.{Standby, StandsAt, log_cause}
 use Rattle.nn_run.specs.Output.{Printed, log_fault}
 use Rattle.nn_run.specs.Start.{Start}
 
@@ -57,32 +52,9 @@ MayEnd (drive.Stopped s) = Unit {0}
 MayEnd (drive.LogNotEnded f) = ⊥
 MayEnd drive.OutOfMemory = Unit {0}
 
--- why an edit was refused, which a stop tells by its number
-unfoldable pub refusal_of : ℕ → Option EditFault
-refusal_of number =
-    if number == EXISTS then Some edit.Exists else (
-    if number == MISSING then Some edit.Missing else (
-    if number == NOT_DIRECTORY then Some edit.NotDirectory else (
-    if number == NOT_FILE then Some edit.NotFile else (
-    if number == IS_ROOT then Some edit.IsRoot else (
-    if number == INTO_ITSELF then Some edit.IntoItself else (
-    if number == NOT_OPEN then Some edit.NotOpen else (
-    if number == WRONG_BLOCKS then Some edit.WrongBlocks else (
-    if number == BAD_GENERATION then Some edit.BadGeneration else (
-    if number == BAD_BLOCK_ID then Some edit.BadBlockId else (
-    if number == BAD_REPLICATION then Some edit.BadReplication else (
-    if number == NOT_CLOSED then Some edit.NotClosed else (
-    if number == LOWER_PROFILE then Some edit.LowerProfile else (
-    if number == MEMORY then Some edit.OutOfMemory else (
-    None))))))))))))))
-
-abbrev pub cause_by : Option EditFault → StopCause
-cause_by (Some fault) = refused fault
-cause_by None = disorder
-
 -- what is printed of the stop
 abbrev pub TellsStop : DriveFault → Printed → Type 0
 TellsStop drive.AlreadyActive p = ⊥
-TellsStop (drive.Stopped s) p = p ≡ log_fault (record { cause = cause_by (refusal_of s.number); txid = s.txid })
+TellsStop (drive.Stopped s) p = p ≡ log_fault (record { cause = log_cause s.cause; txid = s.txid })
 TellsStop (drive.LogNotEnded f) p = ⊥
 TellsStop drive.OutOfMemory p = ⊥

@@ -7,13 +7,13 @@ ghost use Rattle.nn_scenario.specs.Cut.{segments_from};
 ghost use Rattle.nn_scenario.specs.Lines.{IsScenarioOf};
 ghost use Rattle.nn_scenario.specs.Scenario.{scenario_of_read, IsLawfulScenario};
 ghost use Rattle.nn_scenario.specs.Steps.{lanes_of_steps, AreNextMessages, IsStepOf};
-ghost use Rattle.nn_run.specs.InMemory.{GivesReport, cause_by, refusal_of, report_of, with_step, AreFew, AreInMemory, IsBegun, MayEnd, TellsStop};
+ghost use Rattle.nn_run.specs.InMemory.{GivesReport, report_of, with_step, AreFew, AreInMemory, IsBegun, MayEnd, TellsStop};
 ghost use Rattle.nn_run.specs.Input.{IsRead, start_of};
 ghost use Rattle.nn_drive.specs.Driven.{HaveReporters, IsDriven, NotDriven};
 ghost use Rattle.nn_drive.specs.NewLanes.{HaveCapacity};
 ghost use Rattle.nn_segment.specs.Source.{GivesNext};
 ghost use Rattle.nn_lane_standby.specs.Public.{AreNew};
-ghost use Rattle.nn_lane_standby.specs.Tailing.{has_begun};
+ghost use Rattle.nn_lane_standby.specs.Tailing.{has_begun, log_cause};
 ghost use Rattle.nn_run.specs.Output.{log_fault, output_of, IsPrinted, IsPrintedFrom};
 ghost use Rattle.nn_run.specs.Run.{WroteOutput, WroteOutputPrefix, error_of, failed, running};
 ghost use Rattle.nn_run.specs.Shown.{shown, IsToldOf};
@@ -33,8 +33,8 @@ use nn_lane::{LaneEnd, Reporter};
 use nn_lane_standby::{Active, Standby};
 use nn_scenario::{Scenario, ScenarioFault, Step, StepList, read_segments};
 use nn_segment::Parsed;
-use nn_shadow::{Shadow, Stop};
-use nn_types::{EditFault, Message, Report, Settings, fault};
+use nn_shadow::{Shadow, Stop, StopCause};
+use nn_types::{Message, Report, Settings};
 use std::alloc::{AllocError, Global};
 use std::collections::VecDeque;
 use std::io::{Read, Write};
@@ -183,38 +183,14 @@ fn failure_of_drive(fault: DriveFault) -> Result<RunFailure, AllocError>
     }
 }
 
-// A stop has the number of its fault alone.
+// A stop of the standby, as one of the log.
 fn failure_of_stop(stop: Stop) -> RunFailure
-    ensures { failed result ≡ log_fault (record { cause = cause_by (refusal_of stop.number); txid = stop.txid }) }
+    ensures { failed result ≡ log_fault (record { cause = log_cause stop.cause; txid = stop.txid }) }
 {
     let txid = stop.txid.get();
-    match refusal_of(stop.number) {
-        Some(fault) => RunFailure::Log(LogFault::Refused { fault, txid }),
-        None => RunFailure::Log(LogFault::Disorder { txid }),
-    }
-}
-
-// Why an edit was refused, by the number of that.
-#[tactic(auto, unfolding(crate::specs::InMemory::refusal_of))]
-fn refusal_of(number: u8) -> Option<EditFault>
-    ensures { result ≡ refusal_of number }
-{
-    match number {
-        fault::EXISTS => Some(EditFault::Exists),
-        fault::MISSING => Some(EditFault::Missing),
-        fault::NOT_DIRECTORY => Some(EditFault::NotDirectory),
-        fault::NOT_FILE => Some(EditFault::NotFile),
-        fault::IS_ROOT => Some(EditFault::IsRoot),
-        fault::INTO_ITSELF => Some(EditFault::IntoItself),
-        fault::NOT_OPEN => Some(EditFault::NotOpen),
-        fault::WRONG_BLOCKS => Some(EditFault::WrongBlocks),
-        fault::BAD_GENERATION => Some(EditFault::BadGeneration),
-        fault::BAD_BLOCK_ID => Some(EditFault::BadBlockId),
-        fault::BAD_REPLICATION => Some(EditFault::BadReplication),
-        fault::NOT_CLOSED => Some(EditFault::NotClosed),
-        fault::LOWER_PROFILE => Some(EditFault::LowerProfile),
-        fault::MEMORY => Some(EditFault::OutOfMemory),
-        _ => None,
+    match stop.cause {
+        StopCause::Refused(fault) => RunFailure::Log(LogFault::Refused { fault, txid }),
+        StopCause::Disorder => RunFailure::Log(LogFault::Disorder { txid }),
     }
 }
 

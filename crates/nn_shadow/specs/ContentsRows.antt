@@ -1,14 +1,14 @@
 -- What holds of a standby between two calls, and for each clause standbys of which it does not hold.
-use Rattle.std.specs.Prelude.{◌≡◌, ℕ, ◌≤◌, ◌^◌, IsTrue, true, false, [], ◌∷◌, map, replicate, Some, None, is_some, ◌==◌, codes, refl}
+use Rattle.std.specs.Prelude.{◌≡◌, ℕ, ◌≤◌, ◌^◌, IsTrue, true, false, [], ◌∷◌, map, replicate, Option, Some, None, option_map, is_some, ◌==◌, codes, refl}
 use Rattle.std.proofs.Common.{subst, sym, ap, ◌∙◌, inl, inr, arith, rules, cond}
 use Rattle.std.proofs.lemmas.Option.{none-some}
 use Rattle.std.proofs.lemmas.Bool.{both_ways, cases_Bool, or_cases, and_parts, eqb-true}
+use Rattle.nn_types.specs.declared.edit_fault.EditFault.{EditFault}
 use Rattle.nn_types.specs.declared.edit_fault.EditFault.TheVariants.{Exists, Missing}
 use Rattle.nn_types.specs.declared.edit.Edit.TheVariants.{EndSegment, Mkdir}
 use Rattle.nn_types.specs.declared.event.Event.TheVariants.{Applied}
 use Rattle.nn_types.specs.declared.report.Message.{Message}
 use Rattle.nn_types.specs.declared.report.Kind.TheVariants.{Received}
-use Rattle.nn_types.specs.EditFault.{number_of}
 use Rattle.nn_model.proofs.Equals.{root_alone_is_well_formed}
 use Rattle.nn_model.specs.Apply.{refusal}
 use Rattle.nn_model.specs.declared.form.Form.TheVariants.{Dir}
@@ -23,6 +23,7 @@ use Rattle.nn_replicas.specs.Effects.{is_pair}
 use Rattle.nn_replicas.specs.Agreement.{Shows}
 use Rattle.nn_replicas.proofs.Lookups.{find_put, new_in_order, place_in_order, place_places}
 use Rattle.nn_shadow.specs.declared.fault.Stop.{Stop}
+use Rattle.nn_shadow.specs.declared.fault.StopCause.TheVariants.{Refused, Disorder}
 use Rattle.nn_shadow.specs.Contents.{Shadow, last_number_in, node_state_in, standby_of, IsStop, IsConsistent, KeepsSettings, Becomes}
 use Rattle.nn_shadow.specs.Room.{is_waited_for, IsTight}
 
@@ -130,7 +131,7 @@ one_has_nothing_known : IsConsistent (record waiting { had = nothing_known ∷ [
 one_has_nothing_known x = let each : 1 ≡ 2 = x.had_each in omega (arith, each)
 
 abbrev stop_at : ℕ → Stop
-stop_at txid = record { txid = txid; number = 22 }
+stop_at txid = record { txid = txid; cause = Refused Missing }
 
 it_stopped_later : IsConsistent (record waiting { phase = record { stopped = Some (stop_at 3); active = false } }) → ⊥
 it_stopped_later x = omega (arith, x.stopped.next)
@@ -160,14 +161,26 @@ room_is_left_idle x = both_ways _ refl (x.tight refl b refl refl)
 -- ---- A stop.
 
 no_parent_stops : IsStop root_alone 1 (stop_at 2)
-no_parent_stops = record { next = refl; edit = Mkdir (codes "a" ∷ codes "b" ∷ []); fault = Missing; refused = refl; number = refl }
+no_parent_stops = record { next = refl; edit = Mkdir (codes "a" ∷ codes "b" ∷ []); refused = refl }
 
 -- an edit that applies does not stop it
 none_at_an_end : (s : IsStop root_alone 1 (stop_at 2)) → s.edit ≡ EndSegment → ⊥
-none_at_an_end s ends = none-some s.fault (sym (ap (refusal root_alone) ends) ∙ s.refused)
+none_at_an_end s ends = none-some _ (sym (ap (λ edit. option_map (λ fault. Refused fault) (refusal root_alone edit)) ends) ∙ s.refused)
 
-another_number : (s : IsStop root_alone 1 (stop_at 2)) → s.fault ≡ Exists → ⊥
-another_number s exists = let same : 22 ≡ 21 = s.number ∙ ap number_of exists in omega (arith, same)
+-- one that is refused stops it with its own fault
+another_fault : (s : IsStop root_alone 1 (record { txid = 2; cause = Refused Exists })) → s.edit ≡ Mkdir (codes "a" ∷ codes "b" ∷ []) → ⊥
+another_fault s is = apart (sym (ap (λ edit. option_map (λ fault. Refused fault) (refusal root_alone edit)) is) ∙ s.refused)
+  where
+    apart : Some (Refused Missing) ≡ Some (Refused Exists) → ⊥
+    apart same = cc
+
+-- it never stops for a transaction that is missing
+never_missing : IsStop root_alone 1 (record { txid = 2; cause = Disorder }) → ⊥
+never_missing s = apart (refusal root_alone s.edit) s.refused
+  where
+    apart : (o : Option EditFault) → option_map (λ fault. Refused fault) o ≡ Some Disorder → ⊥
+    apart None same = cc
+    apart (Some fault) same = cc
 
 -- ---- What it shows.
 

@@ -1,7 +1,7 @@
 //! The log: a segment in hand, and the next transaction of it.
 ghost use Rattle.std.specs.Prelude.{◌≡◌, ◌≢◌, ◌+◌, ◌^◌, ◌<◌, ◌≤◌, [], List, MatchBool, IfOk, IfErr};
 ghost use Rattle.nn_segment.specs.Source.{Answer, Asked};
-ghost use Rattle.nn_types.specs.declared.fault.TheConstants.{DISORDER};
+ghost use Rattle.nn_shadow.specs.declared.fault.StopCause.TheVariants.{Disorder};
 ghost use Rattle.nn_lane_standby.specs.Tailing.{stopping, EndsInEnd};
 ghost use Rattle.nn_lane_standby.specs.Parts.{IsLive, AppliesNext, NotApplied};
 ghost use Rattle.nn_lane_standby.specs.Reads.{EditsOn};
@@ -10,8 +10,8 @@ ghost use Rattle.nn_lane_standby.specs.Steps.{OnceAsked, Edits, OnLogFault, HasS
 use super::{Standby, Stepped};
 use crate::fault::StepFault;
 use nn_segment::{SegmentSource, TakenUp};
-use nn_shadow::Stop;
-use nn_types::{Txid, fault};
+use nn_shadow::{Stop, StopCause};
+use nn_types::Txid;
 use std::alloc::AllocError;
 
 impl Standby {
@@ -34,7 +34,7 @@ impl Standby {
             Ok(Err(refused)) => {
                 let stop = Stop {
                     txid,
-                    number: refused.number(),
+                    cause: StopCause::Refused(refused),
                 };
                 let mark = stop;
                 self.stop = Some(mark);
@@ -56,7 +56,7 @@ impl Standby {
         requires live { IsLive self.old }
         requires missing { self.old.shadow.last + 1 < 2 ^ 63 }
         ensures next { result.txid ≡ self.old.shadow.last + 1 }
-        ensures number { result.number ≡ DISORDER }
+        ensures cause { result.cause ≡ Disorder }
         ensures stops { self.new ≡ stopping self.old result }
     {
         let last = self.shadow.last_txid();
@@ -65,7 +65,7 @@ impl Standby {
         };
         let stop = Stop {
             txid,
-            number: fault::DISORDER,
+            cause: StopCause::Disorder,
         };
         let mark = stop;
         self.stop = Some(mark);

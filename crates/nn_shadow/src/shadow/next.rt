@@ -15,7 +15,7 @@ ghost use Rattle.nn_shadow.specs.Refusals.{turn_refusal, hand_refusal, handed_as
 ghost use Rattle.nn_shadow.specs.Contents.{standby_of, KeepsSettings};
 
 use super::Shadow;
-use crate::fault::{ApplyFault, Handed, Stop};
+use crate::fault::{ApplyFault, Handed, Stop, StopCause};
 use nn_types::{EditFault, Message, Tx};
 use std::alloc::AllocError;
 
@@ -30,9 +30,11 @@ impl Shadow {
         ensures refused { refusal_told result ≡ refusal self.old.namespace tx.now.edit }
         ensures ok { IfOk result (λ edit. OnOk edit (standby_of self.new ≡ applied_to (standby_of self.old) tx.now)) }
         ensures phase { IfOk result (λ edit. OnOk edit (self.new.phase ≡ self.old.phase)) }
-        ensures stands { IfOk result (λ edit. OnOk edit ((past : History) (start : Paths) (base : ℕ) (txs : List Tx) (lanes : Lanes) → StandsBy start base txs lanes (with_past past (standby_of self.old))
+        ensures stands { IfOk result (λ edit. OnOk edit ((past : History) (start : Paths) (base : ℕ) (txs : List Tx) (lanes : Lanes)
+            → StandsBy start base txs lanes (with_past past (standby_of self.old))
             → StandsBy start base (txs ++ tx.now ∷ []) lanes (with_past past (standby_of self.new)))) }
-        ensures stopped { IfOk result (λ edit. IfErr edit (λ fault. self.new ≡ record self.old { phase = phase_after_apply self.old.phase tx.now (ApplyFault.Refused fault) })) }
+        ensures stopped { IfOk result (λ edit. IfErr edit (λ fault.
+            self.new ≡ record self.old { phase = phase_after_apply self.old.phase tx.now (ApplyFault.Refused fault) })) }
         ensures left { OnErr result (self.new ≡ self.old) }
         ensures numbers { self.new.numbers ≡ self.old.numbers }
         ensures settings { KeepsSettings self.old self.new }
@@ -58,7 +60,7 @@ impl Shadow {
         };
         self.stopped = Some(Stop {
             txid: tx.txid,
-            number: fault.number(),
+            cause: StopCause::Refused(fault),
         });
         Some(fault)
     }
@@ -69,7 +71,8 @@ impl Shadow {
         requires { hand_refusal (length self.old.numbers) self.old.phase (standby_of self.old) message ≡ None }
         ensures ok { OnOk result (standby_of self.new ≡ received (standby_of self.old) message) }
         ensures handed { IfOk result (λ handed. handed ≡ handed_as (standby_of self.old) message) }
-        ensures stands { OnOk result ((past : History) (start : Paths) (base : ℕ) (txs : List Tx) (lanes : Lanes) → StandsBy start base txs lanes (with_past past (standby_of self.old))
+        ensures stands { OnOk result ((past : History) (start : Paths) (base : ℕ) (txs : List Tx) (lanes : Lanes)
+            → StandsBy start base txs lanes (with_past past (standby_of self.old))
             → StandsBy start base txs (followed_by lanes message) (with_past past (standby_of self.new))
             × ((item : Message) → Includes (items_added (standby_of self.old) message) item →
             waits (standby_of self.old) item ≡ is_held self.old.namespace (items (followed_by lanes message) message.dn) item)) }

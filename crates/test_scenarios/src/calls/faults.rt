@@ -12,7 +12,7 @@ use nn_postponed::HoldRefusal;
 use nn_run::{InputFault, RunFault};
 use nn_scenario::ScenarioFault;
 use nn_segment::{SegmentFault, SourceFault};
-use nn_shadow::{ApplyFault, FlushFault, HandCause, HandFault, Stop};
+use nn_shadow::{ApplyFault, FlushFault, HandCause, HandFault, Stop, StopCause};
 use nn_tree::RestoreFault;
 use nn_types::{
     BlockId, EditFault, GenerationStamp, Kind, Length, Message, PathFault, Txid, fault,
@@ -66,6 +66,7 @@ fn show_texts(call: &mut Call<'_>) {
         "SegmentFault" => segment_faults(call),
         "SourceFault" => source_faults(call),
         "StepFault" => step_faults(call),
+        "StopCause" => stop_causes(call),
         "WriteFailed" => unnumbered(call, &WriteFailed { written: 9 }),
         "WriteFault" => write_faults(call),
         _ => call.failed = true,
@@ -259,6 +260,12 @@ fn flush_faults(call: &mut Call<'_>) {
     }
 }
 
+fn stop_causes(call: &mut Call<'_>) {
+    for cause in [StopCause::Refused(EditFault::Exists), StopCause::Disorder] {
+        call.fault(cause.number(), &cause);
+    }
+}
+
 fn step_faults(call: &mut Call<'_>) {
     for fault in [
         StepFault::AlreadyActive,
@@ -327,7 +334,7 @@ fn run_faults(call: &mut Call<'_>) {
 fn stop() -> Stop {
     Stop {
         txid: Txid::new(7).unwrap(),
-        number: fault::EXISTS,
+        cause: StopCause::Refused(EditFault::Exists),
     }
 }
 

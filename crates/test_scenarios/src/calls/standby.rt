@@ -236,7 +236,7 @@ fn read(standby: &Standby, call: &mut Call<'_>) -> bool {
     } else if call.is("stopped") {
         if let Some(stop) = standby.stop() {
             call.show(&stop.txid.get());
-            call.show(&stop.number);
+            call.show(&stop.cause.number());
         }
         call.none();
     } else {

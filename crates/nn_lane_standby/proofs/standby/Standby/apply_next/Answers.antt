@@ -1,6 +1,7 @@
 use Rattle.std.proofs.Common.{◌≡◌, List, drop, refl, sym, ap, ◌∙◌, subst}
 use Rattle.nn_types.specs.declared.tx.Tx.{Tx}
 use Rattle.nn_shadow.specs.Contents.{Shadow, standby_of}
+use Rattle.nn_shadow.specs.declared.fault.StopCause.TheVariants.{Refused}
 use Rattle.nn_lane_standby.specs.Shadows.{IsApplied}
 use Rattle.nn_lane_standby.specs.Tailing.{Keeps, with_rest, with_shadow}
 use Rattle.nn_lane_standby.specs.Parts.{IsLive}
@@ -60,7 +61,7 @@ invariant_of-self-in-Ok-Err c =
     let l = subst IsLive (sym c.self.view_is) c.requires.live in
     let d = c.in-Some.ensures in
     let stopped = rw c.in-Ok-Err.field-0-is at c.in-Ok-Err.ensures.stopped in
-    keeps_stopped x c.apply_next.new.self (record { txid = c.in-Some.tx.now.txid; number = c.number.result }) c.self.invariant l
+    keeps_stopped x c.apply_next.new.self (record { txid = c.in-Some.tx.now.txid; cause = Refused c.in-Ok-Err.refused }) c.self.invariant l
     (record { standby = ap standby_of stopped; settings = c.apply_next.ensures.settings })
     (ap (λ (s : Shadow). s.phase.active) stopped) (is_next_tx x c.in-Some.tx.now d.0 c.self.invariant d.1)
 
@@ -78,7 +79,7 @@ returns-in-Ok-Err-clause-err c =
       refused = sym (rw c.in-Ok-Err.field-0-is at c.in-Ok-Err.ensures.refused);
       next = is_next_tx x c.in-Some.tx.now d.0 c.self.invariant d.1;
       is_txid = refl;
-      number = c.number.ensures;
+      cause = refl;
       same = record { standby = ap standby_of stopped; settings = c.apply_next.ensures.settings };
       active = ap (λ (s : Shadow). s.phase.active) stopped;
       now = refl;

@@ -8,7 +8,6 @@ use Rattle.nn_shadow.proofs.shadow.Shadow.stop_refused.Goals as goal
 pub invariant_of-self : goal.invariant_of-self
 invariant_of-self c =
     let x = the_view c.self.inside in
-    subst (λ k. IsConsistent (record x { phase = record x.phase { stopped = Some (record { txid = c.args.tx.now.txid; number = k }) } })) (sym c.number.ensures)
-    (stopped_at x c.args.tx.now c.in-Some.fault c.self.invariant
+    stopped_at x c.args.tx.now c.in-Some.fault c.self.invariant
     (subst (λ (y : Shadow). turn_refusal y.phase (standby_of y) c.args.tx.now ≡ None) (sym c.self.view_is) c.requires)
-    (sym c.refusal.ensures ∙ c.in-Some.is))
+    (sym c.refusal.ensures ∙ c.in-Some.is)

@@ -1,8 +1,8 @@
 //! The lines of a reader, one after another.
-ghost use Rattle.std.specs.Prelude.{◌≡◌, ◌≤◌, ◌<◌, ◌+◌, ◌^◌, [], ◌∷◌, List, ℕ, false, length, IfOk, IfErr, IfSome, None, true};
+ghost use Rattle.std.specs.Prelude.{◌≡◌, ◌≤◌, ◌<◌, ◌+◌, ◌^◌, [], ◌∷◌, List, ℕ, false, length, IfOk, IfErr, IfSome, None, OnErr, true};
 ghost use Rattle.std.specs.Io.KnownBytes.{IsAtEnd, Keeps};
 ghost use Rattle.nn_device.specs.Device.{FailedToReadOn};
-ghost use Rattle.nn_input.specs.Cut.{AsNoted, HasCome, HasEnded, IsCutTo, IsFresh, IsThere, NextEnded, ReadOn, Refilled, ahead, line_blank, line_text, still_to_cut};
+ghost use Rattle.nn_input.specs.Cut.{AsNoted, HasCome, HasEnded, IsCutTo, IsFresh, IsThere, NextEnded, ReadOn, Refilled, ahead, line_blank, line_text, no_bytes, still_to_cut};
 
 use crate::fault::LinesFault;
 use crate::torn::TornBytes;
@@ -66,7 +66,7 @@ impl Lines {
     }
 
     /// Cuts the next line off what was read: where its text lies, or none where no line ends there. Of a line that came in more
-    /// than one read so many bytes are kept at most.
+    /// than one read so many bytes are kept at most. Where memory is refused nothing is cut.
     pub fn cut(&mut self, most: usize) -> Result<Option<Place>, AllocError>
         requires { 1 ≤ most }
         ensures shorter { IfOk result (λ found. IfSome found (λ _. length (ahead self.new) < length (ahead self.old))) }
@@ -75,6 +75,7 @@ impl Lines {
         ensures line { IfOk result (λ found. IfSome found (λ place.
             (bytes : List ℕ) (lines : List (List ℕ)) → HasCome most bytes lines self.old → HasEnded most bytes lines place self.new)) }
         ensures none { IfOk result (λ found. found ≡ None → IsCutTo most self.old self.new × (ahead self.new ≡ [])) }
+        ensures left { OnErr result (self.new ≡ self.old) }
     {
         let from = self.from;
         let left = &self.buffer[from..self.to];
@@ -95,6 +96,7 @@ impl Lines {
         ensures line { IfOk result (λ found. IfSome found (λ place.
             (bytes : List ℕ) (lines : List (List ℕ)) → HasCome most bytes lines self.old → HasEnded most bytes lines place self.new)) }
         ensures none { IfOk result (λ found. found ≡ None → IsCutTo most self.old self.new × (ahead self.new ≡ [])) }
+        ensures left { OnErr result (self.new ≡ self.old) }
     {
         let from = self.from;
         let left = &self.buffer[from..self.to];
@@ -126,6 +128,7 @@ impl Lines {
         ensures few { length (ahead self.new) ≤ 2 ^ 16 }
         ensures soon { input.new.given ≤ input.old.given + 2 ^ 16 }
         ensures failed { IfErr result (λ _. (input.new.failed ≡ true) × (input.new.given ≡ input.old.given)) }
+        ensures left { OnErr result ((ahead self.new ≡ []) × (self.new.torn ≡ self.old.torn)) }
     {
         let Ok(n) = input.read(&mut self.buffer) else {
             return Err(ReadFailed);
@@ -144,6 +147,7 @@ impl Lines {
         ensures none { IfOk result (λ more. more ≡ false → ahead self.new ≡ []) }
         ensures few { length (ahead self.new) ≤ 2 ^ 16 }
         ensures failed { IfErr result (λ _. Keeps input.old.left input.new.left × FailedToReadOn input.old input.new) }
+        ensures left { OnErr result ((ahead self.new ≡ []) × (self.new.torn ≡ self.old.torn)) }
     {
         let Ok(n) = input.read_on(&mut self.buffer) else {
             return Err(ReadFailed);
@@ -195,6 +199,7 @@ impl Lines {
         ensures torn { IfOk result (λ _. self.new.torn ≡ self.old.torn) }
         ensures soon { input.new.given ≤ input.old.given + 2 ^ 16 }
         ensures failed { IfErr result (λ _. input.new.failed ≡ true) }
+        ensures left { OnErr result ((ahead self.new ≡ []) × (self.new.torn ≡ self.old.torn)) }
     {
         if self.from < self.to {
             return Ok(Some(self.buffer[self.from]));
@@ -255,7 +260,8 @@ impl Lines {
 
     /// Lets them go, uncut.
     pub fn forget(&mut self)
-        ensures { ahead self.new ≡ [] }
+        ensures none { ahead self.new ≡ [] }
+        ensures same { self.new ≡ record self.old { from = self.old.to } }
     {
         self.from = self.to;
     }
@@ -263,6 +269,7 @@ impl Lines {
     /// Lets the bytes that are kept go, with their memory. What is ahead begins a line then.
     pub fn let_go(&mut self, alloc: Global)
         ensures fresh { IsFresh self.new }
+        ensures last { self.new.last ≡ no_bytes }
         ensures same { ahead self.new ≡ ahead self.old }
     {
         self.torn = TornBytes::none(alloc);

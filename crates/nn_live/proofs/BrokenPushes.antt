@@ -3,9 +3,10 @@ use Rattle.std.proofs.Common.{◌≡◌, ℕ, true, List, [], ◌∷◌, ◌++�
 use Rattle.nn_bytes.specs.Lines.{line_feed}
 use Rattle.nn_bytes.proofs.PieceLemmas.{unbroken_both}
 use Rattle.nn_bytes.specs.Pieces.{is_unbroken, pieces}
+use Rattle.nn_input.specs.Cut.{TornBytes}
 use Rattle.nn_live.specs.Live.{LiveSetup, ServiceState, Stage, serving, takes, written_of}
 use Rattle.nn_live.specs.Serving.{Breaks, Service}
-use Rattle.nn_live.specs.Taking.{BreaksPush, HasTorn, Live, Pushes, TakenAllBut, Torn, stage_after}
+use Rattle.nn_live.specs.Taking.{BreaksPush, HasTorn, Live, Pushes, TakenAllBut, stage_after}
 use Rattle.nn_live.proofs.Breaking.{nothing_first}
 use Rattle.nn_live.proofs.Cutting.{ended, line_goes_on}
 use Rattle.nn_live.proofs.Growing.{pieces_grow}
@@ -62,7 +63,7 @@ line_broke text told old whole broke asked s torn at there =
     }
 
 -- of a line of which nothing was kept before
-pub alone_broke : (text told : List ℕ) (x : Service) (left : Torn) → is_unbroken text ≡ true → ((torn : List ℕ) → HasTorn torn left → torn ≡ []) → Breaks (λ asked s. takes asked text s) x told
+pub alone_broke : (text told : List ℕ) (x : Service) (left : TornBytes) → is_unbroken text ≡ true → ((torn : List ℕ) → HasTorn torn left → torn ≡ []) → Breaks (λ asked s. takes asked text s) x told
     → BreaksPush (text ++ line_feed ∷ []) (record { service = x; torn = left }) told
 alone_broke text told x left whole none broke = line_broke text told (record { service = x; torn = left }) whole
     (λ torn there. subst (λ t. Breaks (λ asked s. takes asked (t ++ text) s) x told) (sym (none torn there)) broke)

@@ -1,16 +1,16 @@
 -- An input that is cut into its lines as it comes.
-use Rattle.std.proofs.Common.{◌≡◌, ℕ, flat_map, ◌+◌, ◌-◌, ◌<◌, ◌≤◌, ◌==◌, Bool, true, false, not, List, [], ◌∷◌, ◌++◌, length, length-drop, take, drop, get_or, refl, sym, subst, ap, ap₂, ◌∙◌, arith, append_assoc, append-nil, length-append, zero, suc, ◌&&◌}
-use Rattle.std.specs.Prelude.{nat_lt}
-use Rattle.std.proofs.lemmas.Bool.{and_parts, and_from, ltb-true, ltb-false}
+use Rattle.std.proofs.Common.{◌≡◌, ℕ, flat_map, ◌+◌, ◌<◌, true, Result, Ok, Err, List, [], ◌∷◌, ◌++◌, length, length-drop, take, drop, get_or, refl, sym, subst, ap, ap₂, ◌∙◌, arith, append_assoc, append-nil, suc}
+use Rattle.std.specs.Prelude.{OnErr, OnOk}
 use Rattle.std.proofs.Math.Seq.{drop-cons}
 use Rattle.std.proofs.lemmas.List.{nil_from_length, take-append-drop}
-use Rattle.std.proofs.lemmas.List.Folds.{list_all-append}
-use Rattle.nn_bytes.specs.Lines.{is_blank, is_blank_byte, line_feed}
+use Rattle.nn_bytes.specs.Lines.{line_feed}
 use Rattle.nn_bytes.specs.Pieces.{is_unbroken}
 use Rattle.nn_bytes.proofs.PieceLemmas.{cut_first, one_piece, some_piece, unbroken_both}
+use Rattle.nn_input.specs.Cut.{KeepsFirst, TornBytes, no_bytes}
+use Rattle.nn_types.specs.Limits.{max_line}
 use Rattle.nn_live.specs.Live.{LiveSetup, ServiceState, Stage, ends, serving, takes, takes_end, takes_pieces, takes_torn, written_of}
 use Rattle.nn_live.specs.Serving.{Service, IsAtService, FollowsStep}
-use Rattle.nn_live.specs.Taking.{IsLong, Torn, Live, HasTorn, stage_after, Comes, MayBeCut, TakesBytes, Pushes, EndsInput}
+use Rattle.nn_live.specs.Taking.{Live, HasTorn, stage_after, Comes, MayBeCut, TakesBytes, Pushes, EndsInput}
 
 -- a line of several is taken, and the others follow
 one_taken : (asked : LiveSetup) (line p : List ℕ) (ps : List (List ℕ)) (s : ServiceState) → takes_pieces asked (line ∷ p ∷ ps) (serving s) ≡ takes_pieces asked (p ∷ ps) (serving (takes asked line s))
@@ -79,109 +79,42 @@ none_taken bytes x asked s torn at there = record {
 
 -- ---- What is kept of a line.
 
-take_none : (n : ℕ) → take {A = ℕ} n [] ≡ []
-take_none zero = refl
-take_none (suc n) = refl
+-- nothing is kept of nothing
+pub nothing_torn : (x : TornBytes) → x ≡ no_bytes → HasTorn [] x
+nothing_torn x none = subst (HasTorn []) (sym none) (record { keeps = record { kept = refl; blank = refl }; unbroken = refl })
 
--- of some bytes and more
-pub take_both : (n : ℕ) (some more : List ℕ) → take n (some ++ more) ≡ take n some ++ take (n - length (take n some)) more
-take_both zero some more = ap (λ k. take k more) (none_left 0)
-  where
-    none_left : (k : ℕ) → 0 ≡ 0 - k
-    none_left k = omega arith
-take_both (suc n) [] more = ap (λ k. take k more) same
-  where
-    same : suc n ≡ suc n - 0
-    same = omega arith
-take_both (suc n) (b ∷ some) more = ap (λ l. b ∷ l) (take_both n some more) ∙ ap (λ k. b ∷ (take n some ++ take k more)) (fewer (length (take n some)))
-  where
-    fewer : (k : ℕ) → n - k ≡ suc n - suc k
-    fewer k = omega arith
+-- more bytes are kept
+pub torn_more : (torn bytes : List ℕ) (x y : TornBytes) → is_unbroken bytes ≡ true → (KeepsFirst (max_line + 1) torn x → KeepsFirst (max_line + 1) (torn ++ bytes) y) → HasTorn torn x → HasTorn (torn ++ bytes) y
+torn_more torn bytes x y whole keeps has = record { keeps = keeps has.keeps; unbroken = unbroken_both torn bytes has.unbroken whole }
 
-short_take : (n : ℕ) (t : List ℕ) → length (take n t) < n → take n t ≡ t
-short_take zero t few = absurd (omega (arith, few))
-short_take (suc n) [] few = refl
-short_take (suc n) (b ∷ t) few = ap (λ l. b ∷ l) (short_take n t (omega (arith, few)))
+-- or none, where there was no memory
+pub kept_on : {T E : Type 0} (r : Result T E) (bytes : List ℕ) (x y : TornBytes) → is_unbroken bytes ≡ true
+    → OnOk r ((torn : List ℕ) → KeepsFirst (max_line + 1) torn x → KeepsFirst (max_line + 1) (torn ++ bytes) y) → OnErr r (y ≡ x)
+    → (torn : List ℕ) × HasTorn torn x → (torn : List ℕ) × HasTorn torn y
+kept_on (Ok none) bytes x y whole keeps left (torn, has) = (torn ++ bytes, torn_more torn bytes x y whole (keeps torn) has)
+kept_on (Err fault) bytes x y whole keeps left has = subst (λ (z : TornBytes). (torn : List ℕ) × HasTorn torn z) (sym left) has
 
--- it is whole, where it is not too long
-pub whole_line : (torn : List ℕ) (x : Torn) → HasTorn torn x → length x.kept ≤ 65536 → x.kept ≡ torn
-whole_line torn x has few = has.kept ∙ short_take 65537 torn (subst (λ k. k < 65537) (ap length has.kept) (above (length x.kept) few))
-  where
-    above : (k : ℕ) → k ≤ 65536 → k < 65537
-    above k h = omega (arith, h)
-
-pub long_line : (torn : List ℕ) (x : Torn) → HasTorn torn x → 65536 < length x.kept → 65536 < length torn
-long_line torn x has many = more 65536 (length x.kept) (length torn) many (subst (λ k. k ≤ length torn) (sym (ap length has.kept)) (no_more 65537 torn))
-  where
-    no_more : (n : ℕ) (t : List ℕ) → length (take n t) ≤ length t
-    no_more zero t = omega arith
-    no_more (suc n) [] = omega arith
-    no_more (suc n) (b ∷ t) = omega (arith, no_more n t)
-
-    more : (n a b : ℕ) → n < a → a ≤ b → n < b
-    more n a b h l = omega (arith, h, l)
-
--- of a line that is too long the code knows whether it is blank
-pub is_long : (torn : List ℕ) (x : Torn) (blank : Bool) → HasTorn torn x → nat_lt 65536 (length x.kept) ≡ true → blank ≡ x.blank → IsLong torn blank
-is_long torn x blank has many is = record {
-  long = long_line torn x has (ltb-true 65536 (length x.kept) many);
-  all = sym has.blank ∙ sym is;
-}
-
--- such a line has some bytes
+-- a line that is too long has some bytes
 pub some_long : (torn : List ℕ) → 65536 < length torn → torn ≡ [] → ⊥
 some_long torn long none = omega (arith, long, ap length none)
 
--- any other it has whole
-pub is_whole : (torn : List ℕ) (x : Torn) → HasTorn torn x → nat_lt 65536 (length x.kept) ≡ false → x.kept ≡ torn
-is_whole torn x has few = whole_line torn x has (ltb-false 65536 (length x.kept) few)
-
 -- nothing is kept of nothing alone
-pub none_torn : (torn : List ℕ) (x : Torn) → HasTorn torn x → length x.kept ≡ 0 → torn ≡ []
-none_torn torn x has none = at 65536 torn (sym has.kept ∙ nil_from_length x.kept none)
+pub none_torn : (torn : List ℕ) (x : TornBytes) → HasTorn torn x → length x.kept ≡ 0 → torn ≡ []
+none_torn torn x has none = at 65536 torn (sym has.keeps.kept ∙ nil_from_length x.kept none)
   where
     at : (n : ℕ) (t : List ℕ) → take (suc n) t ≡ [] → t ≡ []
     at n [] e = refl
     at n (b ∷ t) e = absurd (cc)
 
-unbroken_prefix : (n : ℕ) (bytes : List ℕ) → is_unbroken bytes ≡ true → is_unbroken (take n bytes) ≡ true
-unbroken_prefix zero bytes whole = refl
-unbroken_prefix (suc n) [] whole = refl
-unbroken_prefix (suc n) (b ∷ bytes) whole =
-    let both = and_parts (not (b == line_feed)) (is_unbroken bytes) whole in
-    and_from (not (b == line_feed)) (is_unbroken (take n bytes)) both.0 (unbroken_prefix n bytes both.1)
-
--- more bytes are kept
-pub kept_more : (torn bytes : List ℕ) (x y : Torn) → HasTorn torn x → is_unbroken bytes ≡ true → y.kept ≡ x.kept ++ take (65537 - length x.kept) bytes → y.blank ≡ (x.blank && is_blank bytes) → HasTorn (torn ++ bytes) y
-kept_more torn bytes x y has whole is blank = record {
-  kept = is ∙ ap (λ k. k ++ take (65537 - length k) bytes) has.kept ∙ sym (take_both 65537 torn bytes);
-  blank = blank ∙ ap (λ b. b && is_blank bytes) has.blank ∙ sym (list_all-append is_blank_byte torn bytes);
-  unbroken = unbroken_both torn bytes has.unbroken whole;
-}
-
-pub kept_invariant : (kept bytes more : List ℕ) → is_unbroken kept ≡ true → length kept ≤ 65537 → is_unbroken bytes ≡ true → more ≡ kept ++ take (65537 - length kept) bytes → (is_unbroken more ≡ true) × (length more ≤ 65537)
-kept_invariant kept bytes more whole few new is = (
-  ap is_unbroken is ∙ unbroken_both kept (take (65537 - length kept) bytes) whole (unbroken_prefix (65537 - length kept) bytes new),
-  small (length kept) (length (take (65537 - length kept) bytes)) (length more) few (ap length is ∙ length-append kept (take (65537 - length kept) bytes)) (take_few (65537 - length kept) bytes),
-)
-  where
-    take_few : (n : ℕ) (t : List ℕ) → length (take n t) ≤ n
-    take_few zero t = omega arith
-    take_few (suc n) [] = omega arith
-    take_few (suc n) (b ∷ t) = omega (arith, take_few n t)
-
-    small : (a b c : ℕ) → a ≤ 65537 → c ≡ a + b → b ≤ 65537 - a → c ≤ 65537
-    small a b c h e l = omega (arith, h, e, l)
-
 -- a line that ended where nothing was kept
-pub line_alone : (text told : List ℕ) (x y : Service) (torn : Torn) → is_unbroken text ≡ true → length torn.kept ≡ 0 → FollowsStep (λ asked s. takes asked text s) x y told
+pub line_alone : (text told : List ℕ) (x y : Service) (torn : TornBytes) → is_unbroken text ≡ true → length torn.kept ≡ 0 → FollowsStep (λ asked s. takes asked text s) x y told
     → Pushes (text ++ line_feed ∷ []) (record { service = x; torn = torn }) (record { service = y; torn = torn }) told
 line_alone text told x y torn whole none made = line_ended text told (record { service = x; torn = torn }) (record { service = y; torn = torn }) whole
     (λ some there. subst (λ t. HasTorn t torn) (none_torn some torn there none) there)
     (λ some there. subst (λ t. FollowsStep (λ asked s. takes asked t s) x y told) (ap (λ t. t ++ text) (sym (none_torn some torn there none))) made)
 
 -- the input ended
-pub finishes : (x y : Service) (torn left : Torn) (told : List ℕ) → ((some : List ℕ) → HasTorn some torn → FollowsStep (λ asked s. ends asked (takes_torn asked some s)) x y told)
+pub finishes : (x y : Service) (torn left : TornBytes) (told : List ℕ) → ((some : List ℕ) → HasTorn some torn → FollowsStep (λ asked s. ends asked (takes_torn asked some s)) x y told)
     → EndsInput (record { service = x; torn = torn }) (record { service = y; torn = left }) told
 finishes x y torn left told made = record {
   at = λ asked s some at there. (made some there).at asked s at;

@@ -1,24 +1,19 @@
 -- A service and the bytes behind the last line feed.
-use Rattle.std.specs.Prelude.{◌≡◌, ◌<◌, ℕ, Bool, true, List, [], ◌∷◌, ◌++◌, flat_map, length, take}
+use Rattle.std.specs.Prelude.{◌≡◌, ◌<◌, ◌+◌, ℕ, Bool, true, List, [], ◌∷◌, ◌++◌, flat_map, length}
 use Rattle.nn_bytes.specs.Lines.{is_blank}
 use Rattle.nn_bytes.specs.Pieces.{is_unbroken, pieces}
+use Rattle.nn_input.specs.Cut.{KeepsFirst, TornBytes}
 use Rattle.nn_live.specs.Live.{LiveSetup, ServiceState, Stage, ended, ends, serving, takes_pieces, takes_torn, written_of}
 use Rattle.nn_live.specs.Serving.{Service, BreaksAtEnd, IsAtService, IsCutShort, HasRunOut, RunsOutBehind}
 use Rattle.nn_types.specs.Limits.{max_line}
 
--- what the code has of the bytes behind the last line feed
-pub record Torn : Type 0 where
-  pub kept : List ℕ
-  pub blank : Bool
-
 pub record Live : Type 0 where
   pub service : Service
-  pub torn : Torn
+  pub torn : TornBytes
 
--- of these bytes it has the first 65,537, and knows whether all are blank
-pub record HasTorn (torn : List ℕ) (x : Torn) : Type 0 where
-  pub kept : x.kept ≡ take 65537 torn
-  pub blank : x.blank ≡ is_blank torn
+-- of these bytes behind the last line feed it has the first 65,537, and knows whether all are blank
+pub record HasTorn (torn : List ℕ) (x : TornBytes) : Type 0 where
+  pub keeps : KeepsFirst (max_line + 1) torn x
   pub unbroken : is_unbroken torn ≡ true
 
 -- a line that has more bytes than one may have, and may be blank

@@ -10,7 +10,7 @@ ghost use Rattle.nn_live.specs.Serving.{HasPart, HasRead, IsAllOf, part_alone};
 use crate::service::ServiceFault;
 use nn_scenario::SegmentCheck;
 use nn_segment::SegmentFault;
-use nn_types::Tx;
+use nn_types::{Tx, Txid};
 use std::alloc::Global;
 use std::marker::Model;
 
@@ -25,7 +25,7 @@ pub(crate) struct SegmentInHand {
     txs: Vec<Tx>,
     // how many edits came, and the txid of the last one
     edits: u64,
-    last: u64,
+    last: Txid,
 }
 
 impl Model for SegmentInHand {
@@ -48,7 +48,7 @@ impl SegmentInHand {
             check: SegmentCheck::new(),
             txs: Vec::new(alloc),
             edits: 0,
-            last: 0,
+            last: Txid::ZERO,
         }
     }
 
@@ -67,7 +67,7 @@ impl SegmentInHand {
     }
 
     /// The txid of the last one, 0 where there is none.
-    pub(crate) fn last_txid(&self) -> u64
+    pub(crate) fn last_txid(&self) -> Txid
         ensures { result ≡ self.now.last }
     {
         self.last
@@ -93,7 +93,7 @@ impl SegmentInHand {
         }
         self.check.push(text, &tx);
         self.edits += 1;
-        self.last = tx.txid.get();
+        self.last = tx.txid;
         self.txs.push_reserved(tx);
         if self.check.is_too_long() {
             self.txs.clear();

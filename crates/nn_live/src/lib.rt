@@ -19,7 +19,6 @@ mod run;
 mod served;
 mod service;
 mod texts;
-mod torn;
 mod word;
 
 pub use laws::{

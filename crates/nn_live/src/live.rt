@@ -8,10 +8,12 @@ ghost use Rattle.nn_live.specs.Serving.{Breaks, HasRunOut, FollowsStep};
 ghost use Rattle.nn_live.specs.Taking.{BreaksEnd, BreaksPush, EndsInput, HasTorn, Pushes, RunsOut, RunsOutAtEnd};
 
 use crate::service::{Service, ServiceFault};
-use crate::torn::Torn;
 use nn_bytes::line_end;
 use nn_device::{Page, Writer};
 use nn_edits::Scratch;
+use nn_input::TornBytes;
+use nn_scenario::MAX_KEPT;
+use nn_types::limits::MAX_LINE_LEN;
 use std::alloc::Global;
 use std::fmt;
 use std::io::Write;
@@ -21,16 +23,19 @@ use std::marker::Model;
 #[derive(Drop)]
 pub struct Live {
     service: Service,
-    torn: Torn,
+    torn: TornBytes,
     scratch: Scratch,
 }
 
 impl Model for Live {
-    ghost use Rattle.nn_live.specs.Taking.{Live};
+    ghost use Rattle.std.specs.Prelude.{ℕ, List};
+    ghost use Rattle.nn_live.specs.Taking.{HasTorn, Live};
 
     ghost Value = { Live };
 
     ghost view = { λ l. record { service = l.service; torn = l.torn } };
+
+    ghost invariant = { λ l. (torn : List ℕ) × HasTorn torn l.torn };
 }
 
 // Without the bytes that it has of a line.
@@ -50,7 +55,7 @@ impl Live {
     {
         Live {
             service,
-            torn: Torn::none(alloc),
+            torn: TornBytes::none(alloc),
             scratch: Scratch::new(alloc),
         }
     }
@@ -71,7 +76,7 @@ impl Live {
         'lines: loop {
             let (text, more) = rest.split_at(line_end(rest));
             let Some((_, after)) = more.split_first() else {
-                return self.torn.push(text);
+                return self.keep(text);
             };
             self.end_line(page, writer, text)?;
             rest = after;
@@ -88,10 +93,10 @@ impl Live {
         ensures exhausted { IsErrOf result ServiceFault.Exhausted → RunsOutAtEnd self.old }
         ensures prefix { IfErr result (λ _. (told : List ℕ) × PutsPiece told page.old writer.old page.new writer.new × BreaksEnd self.old told) }
     {
-        if self.torn.is_too_long() {
+        let torn = self.torn.as_slice();
+        if torn.len() > MAX_LINE_LEN {
             return self.service.end_long(page, writer, self.torn.is_blank());
         }
-        let torn = self.torn.as_slice();
         self.service.end(&mut self.scratch, page, writer, torn)
     }
 
@@ -107,13 +112,35 @@ impl Live {
         ensures exhausted { IsErrOf result ServiceFault.Exhausted → HasRunOut self.old.service }
         ensures prefix { IfErr result (λ _. (told : List ℕ) × PutsPiece told page.old writer.old page.new writer.new × BreaksPush (text.now ++ line_feed ∷ []) self.old told) }
     {
-        if self.torn.is_empty() {
+        if self.torn.as_slice().is_empty() {
             return self.service.line(&mut self.scratch, page, writer, text);
         }
-        self.torn.push(text)?;
+        self.keep(text)?;
         self.kept_line(page, writer)?;
-        self.torn.clear();
+        self.forget_line();
         Ok(())
+    }
+
+    // Bytes without a line feed are kept with those before them. No bytes take no memory.
+    fn keep(&mut self, bytes: &[u8]) -> Result<(), ServiceFault>
+        requires { is_unbroken bytes.now ≡ true }
+        ensures ok { OnOk result ((torn : List ℕ) → HasTorn torn self.old.torn → HasTorn (torn ++ bytes.now) self.new.torn) }
+        ensures service { self.new.service ≡ self.old.service }
+        ensures left { IfErr result (λ fault. (fault ≡ ServiceFault.OutOfMemory) × (self.new ≡ self.old)) }
+        ensures some { IfErr result (λ _. bytes.now ≡ [] → ⊥) }
+    {
+        if let Err(_) = self.torn.push(bytes, MAX_KEPT) {
+            return Err(ServiceFault::OutOfMemory);
+        }
+        Ok(())
+    }
+
+    // A line has ended, and the next one has no bytes yet.
+    fn forget_line(&mut self)
+        ensures torn { HasTorn [] self.new.torn }
+        ensures service { self.new.service ≡ self.old.service }
+    {
+        self.torn.clear();
     }
 
     // The line that is kept, whole or as far as a line may go.
@@ -129,10 +156,10 @@ impl Live {
         ensures prefix { IfErr result (λ _. (told : List ℕ) × PutsPiece told page.old writer.old page.new writer.new
             × ((torn : List ℕ) → HasTorn torn self.old.torn → Breaks (λ asked s. takes asked torn s) self.old.service told)) }
     {
-        if self.torn.is_too_long() {
+        let text = self.torn.as_slice();
+        if text.len() > MAX_LINE_LEN {
             return self.service.long_line(page, writer, self.torn.is_blank());
         }
-        let text = self.torn.as_slice();
         self.service.line(&mut self.scratch, page, writer, text)
     }
 }

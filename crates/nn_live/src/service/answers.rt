@@ -235,7 +235,7 @@ impl Service {
             writer,
             "edits",
             self.in_hand.len(),
-            self.in_hand.last_txid(),
+            self.in_hand.last_txid().get(),
         );
         put_counts_of(page, writer, "epoch", self.epoch, self.promoted);
         self.full.put(page, writer);

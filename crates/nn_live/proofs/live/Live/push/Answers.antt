@@ -18,30 +18,29 @@ returns-in_default-clause-ok g c =
     let was = c.lines.invariant in
     let text = c.split_at.result.0.now in
     let old = c.args.self.now in
-    let mid : Live = record { service = c.self.inside.service; torn = c.self.inside.torn } in
-    let new : Live = record { service = c.self.inside.service; torn = c.push.new.self } in
+    let mid : Live = c.lines.self in
+    let new : Live = c.keep.new.self in
     let cut = none_cut c.lines.rest.now text c.split_at.result.1.now c.line_end.result c.split_at.ensures.front c.split_at.ensures.back c.in_default.ensures.cases in
     let all : was.2 ++ text ≡ c.args.bytes.now = ap (λ t. was.2 ++ t) (sym (append-nil text) ∙ sym cut) ∙ sym was.3 in
-    let first : Pushes was.2 old mid was.0 = subst (λ (x : Live). Pushes was.2 old x was.0) (sym c.self.view_is) was.4 in
-    IfOk-weaker c.push.result _ _ (λ _ has. (
+    IfOk-weaker c.keep.result _ _ (λ _ has. (
       was.0,
       was.1,
-      subst (λ b. Pushes b old new was.0) all (subst (λ t. Pushes (was.2 ++ text) old new t) (append-nil was.0) (then_pushes was.2 text was.0 [] old mid new first (kept text mid new refl has))),
-    )) c.push.ensures.ok
+      subst (λ b. Pushes b old new was.0) all (subst (λ t. Pushes (was.2 ++ text) old new t) (append-nil was.0) (then_pushes was.2 text was.0 [] old mid new was.4 (kept text mid new c.keep.ensures.service has))),
+    )) c.keep.ensures.ok
 
 pub returns-in_default-clause-exhausted : goal.returns-in_default-clause-exhausted
-returns-in_default-clause-exhausted g c is = absurd (not_memory _ is c.push.ensures.left)
+returns-in_default-clause-exhausted g c is = absurd (not_memory _ is c.keep.ensures.left)
 
 pub returns-in_default-clause-prefix : goal.returns-in_default-clause-prefix
 returns-in_default-clause-prefix g c =
     let was = c.lines.invariant in
     let text = c.split_at.result.0.now in
     let cut = none_cut c.lines.rest.now text c.split_at.result.1.now c.line_end.result c.split_at.ensures.front c.split_at.ensures.back c.in_default.ensures.cases in
-    IfErr-weaker c.push.result _ _ (λ _ some. (
+    IfErr-weaker c.keep.result _ _ (λ _ some. (
       was.0,
       was.1,
       rest_untaken c.args.bytes.now was.2 c.lines.rest.now was.0 c.args.self.now c.lines.self was.3 (λ none. some (sym (append-nil text) ∙ sym cut ∙ none)) was.4,
-    )) c.push.ensures.some
+    )) c.keep.ensures.some
 
 pub returns-in_err-end_line-clause-exhausted : goal.returns-in_err-end_line-clause-exhausted
 returns-in_err-end_line-clause-exhausted g c is =
@@ -81,8 +80,8 @@ returns-in_err-end_line-clause-prefix g c =
       then_line_broke c.args.bytes.now was.2 text after was.0 prefix.0 c.args.self.now c.lines.self (was.3 ∙ ap (λ r. was.2 ++ r) cut) whole was.4 prefix.2,
     )
 
-pub push-requires : goal.push-requires
-push-requires g c = ap is_unbroken c.split_at.ensures.front ∙ unbroken_to _ _ c.line_end.ensures.end
+pub keep-requires : goal.keep-requires
+keep-requires g c = ap is_unbroken c.split_at.ensures.front ∙ unbroken_to _ _ c.line_end.ensures.end
 
 pub end_line-requires : goal.end_line-requires
 end_line-requires g c = ap is_unbroken c.split_at.ensures.front ∙ unbroken_to _ _ c.line_end.ensures.end

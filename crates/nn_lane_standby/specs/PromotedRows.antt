@@ -23,7 +23,7 @@ use Rattle.nn_model.proofs.Equals.{root_alone_is_well_formed}
 use Rattle.nn_lane.specs.Ends.{LaneId, LaneEnd}
 use Rattle.nn_segment.specs.Segment.{Segment}
 use Rattle.nn_segment.specs.Source.{given, end}
-use Rattle.nn_segment.specs.LogEnd.{end_of_log, end_of_txs, disorder}
+use Rattle.nn_segment.specs.LogEnd.{end_of_log, end_of_txs}
 use Rattle.nn_shadow.specs.declared.fault.Stop.{Stop}
 use Rattle.nn_shadow.specs.declared.fault.StopCause.TheVariants.{Disorder}
 use Rattle.nn_shadow.specs.Calls.{applied_to, received, flushed}

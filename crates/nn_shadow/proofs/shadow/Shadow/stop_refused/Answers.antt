@@ -1,6 +1,6 @@
-use Rattle.std.proofs.Common.{◌≡◌, Some, None, subst, sym, ◌∙◌}
+use Rattle.std.proofs.Common.{◌≡◌, None, subst, sym, ◌∙◌}
 use Rattle.nn_shadow.specs.contracts.shadow.Shadow.{the_view}
-use Rattle.nn_shadow.specs.Contents.{Shadow, standby_of, IsConsistent}
+use Rattle.nn_shadow.specs.Contents.{Shadow, standby_of}
 use Rattle.nn_shadow.specs.Refusals.{turn_refusal}
 use Rattle.nn_shadow.proofs.Consistent.{stopped_at}
 use Rattle.nn_shadow.proofs.shadow.Shadow.stop_refused.Goals as goal

@@ -210,7 +210,7 @@ def check_told(place):
     kinds = {f'not_compared{{kind="{kind}"}}': count for kind, count in last["not_compared"].items()}
     place.check.same("the metrics", got, {"last_txid": 64, "last_status": 0, **counts, **kinds})
     left = last["not_compared"]
-    place.check.same("what a result did not compare", (left["inode/mtime"], left["INODEID"], len(left)), (12, 1, 13))
+    place.check.same("what a result did not compare", (left["inode/mtime"], "INODEID" in left, len(left)), (12, False, 8))
     end = f"not compared: {sum(left.values())} items of {len(left)} kinds"
     place.check.contains("the verdict in a result", last["verdict"], end)
     place.check.contains("its gauge", kinds, 'not_compared{kind="inode/mtime"}')

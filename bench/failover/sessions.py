@@ -2,9 +2,11 @@
 import json
 import random
 
-from worlds import TTL, WITHIN, Broken, World
+from worlds import TTL, Broken, World
 
-TROUBLED_SECONDS, QUIET_SECONDS = 60, 150
+TROUBLED_SECONDS, QUIET_SECONDS = 40, 150
+# So many looks in a row find somebody who is active.
+STEADY = 3
 
 
 class Session:
@@ -30,15 +32,14 @@ class Session:
                 self.trouble()
                 world.run(world.now + self.random.choice((0.02, 0.3, 1, 3, 8)))
             self.heal()
-            world.run(world.now + QUIET_SECONDS)
-            self.look_at_end()
+            self.be_quiet()
         except Broken as law:
             return str(law)
         return None
 
     def trouble(self):
         host = self.random.choice(self.hosts)
-        kind = self.random.choice(("kill", "feeder", "pause", "mute", "deaf", "cut", "session", "power", "move", "well", "well", "stopped"))
+        kind = self.random.choice(("kill", "feeder", "pause", "mute", "deaf", "cut", "session", "power", "move", "named", "well", "well", "stopped"))
         if kind == "kill" and host.core:
             host.kill()
         elif kind == "feeder":
@@ -56,6 +57,9 @@ class Session:
             host.feeder.end()
         elif kind == "move":
             self.move()
+        elif kind == "named" and host.feeder.is_up:
+            # By an operator.
+            host.feeder.name(self.world.greatest + 3)
         elif kind == "stopped" and self.random.random() < 0.1 and not any(it.is_stopped for it in self.hosts):
             host.is_stopped = True
 
@@ -72,6 +76,18 @@ class Session:
         for host in self.hosts:
             host.is_mute = host.is_deaf = host.is_cut = False
 
+    def be_quiet(self):
+        """Without faults somebody is active before long, and stays."""
+        end, steady = self.world.now + QUIET_SECONDS, 0
+        while self.world.now < end and steady < STEADY:
+            self.world.run(self.world.now + 5)
+            try:
+                self.look_at_end()
+                steady += 1
+            except Broken:
+                steady = 0
+        self.look_at_end()
+
     def look_at_end(self):
         """Somebody is active, has the lock and is named by the breadcrumb. A log that stopped is an operator's."""
         active = [host for host in self.hosts if host.feeder.state == "active"]
@@ -79,7 +95,7 @@ class Session:
             steps = ", ".join(f"{host.name} {host.core.step} {host.core.refused}" for host in self.hosts if host.core)
             raise Broken(f"{len(active)} services are active in the end: {steps}")
         host, server = active[0], self.world.zookeeper
-        if host.core.step != "active" or not server.lock or server.lock[1] != host.name:
+        if host.core is None or host.core.step != "active" or not server.lock or server.lock[1] != host.name:
             raise Broken(f"{host.name} is active, and {server.lock} has the lock")
         crumb = json.loads(server.nodes["breadcrumb"][0] or "{}")
         if crumb.get("host") != host.name or host.writer is None:

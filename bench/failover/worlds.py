@@ -27,10 +27,12 @@ class ZooKeeper:
         self.nodes = {"breadcrumb": ["", 0], "epoch": ["0", 0], "move": ["", 0]}
         self.watches = []
 
-    def open(self, host):
+    def open(self, host, core):
+        """A session, for a core that may be gone by now."""
         self.count += 1
-        self.sessions[self.count] = SimpleNamespace(host=host, until=self.world.now + TTL, core=host.core)
-        return self.count
+        self.sessions[self.count] = SimpleNamespace(host=host, until=self.world.now + TTL, core=core)
+        if core is host.core:
+            host.session = self.count
 
     def is_alive(self, session):
         return session in self.sessions
@@ -352,25 +354,24 @@ class World:
             **{"promote": self.promote, "active": self.start_writer, "stop": self.stop},
         }.get(ask.kind, self.ask_zookeeper)
         session = host.session
-        self.after(self.random.choice((0.001, 0.002, 0.01, 0.1)), lambda: do(host, ask, answer, session))
+        self.after(self.random.choice((0.001, 0.002, 0.01, 0.1)), lambda: do(host, core, ask, answer, session))
 
-    def ask_zookeeper(self, host, ask, answer, session):
+    def ask_zookeeper(self, host, core, ask, answer, session):
         server, failed = self.zookeeper, self.modules.asks.Failed
         if host.is_mute:
             return
         answer = answer if not host.is_deaf else lambda _value: None
         if ask.kind == "open":
-            host.session = server.open(host)
+            server.open(host, core)
             answer(TTL)
             return
         if not server.is_alive(session) or self.chance(0.003):
             answer(failed("session"))
-            host.event(host.core, "suspended")
+            host.event(core, "suspended")
             return
         server.touch(session)
         if ask.kind == "watch":
             holder = server.lock and self.modules.asks.Holder(*server.lock[1:])
-            core = host.core
             if holder:
                 server.watches.append(lambda: self.after(0.002, lambda: host.event(core, "freed")))
             answer(holder)
@@ -381,13 +382,13 @@ class World:
             value = do.get(ask.kind, server.write)(*ask.arguments)
             answer(failed(value) if isinstance(value, str) else value)
 
-    def name_epoch(self, host, ask, answer, _session):
+    def name_epoch(self, host, _core, ask, answer, _session):
         other = self.hosts[ask.arguments[0]]
         is_reached = other is host or not (other.is_cut or host.is_cut)
         if other.feeder.is_up and is_reached:
             answer(other.feeder.name(ask.arguments[1]))
 
-    def fence(self, host, ask, answer, _session):
+    def fence(self, host, _core, ask, answer, _session):
         other = self.hosts[ask.arguments[0]]
         if self.chance(0.2):
             answer(self.modules.asks.Failed("status", "status 1"))
@@ -396,7 +397,7 @@ class World:
         other.feeder.end()
         answer("")
 
-    def finalize(self, host, ask, answer, _session):
+    def finalize(self, host, _core, ask, answer, _session):
         epoch = ask.arguments[0]
         if self.journal.refuses and epoch < self.journal.epoch:
             answer(self.modules.asks.Failed("status", "status 1"))
@@ -422,11 +423,11 @@ class World:
         for host in self.hosts.values():
             host.feeder.follow()
 
-    def promote(self, host, ask, answer, _session):
+    def promote(self, host, _core, ask, answer, _session):
         if host.feeder.is_up:
             host.feeder.promote(*ask.arguments, answer)
 
-    def start_writer(self, host, ask, answer, _session):
+    def start_writer(self, host, _core, ask, answer, _session):
         if self.chance(0.05):
             answer(self.modules.asks.Failed("status", "status 1"))
             return
@@ -435,7 +436,7 @@ class World:
             host.writer = epoch
         answer("")
 
-    def stop(self, host, _ask, answer, _session):
+    def stop(self, host, _core, _ask, answer, _session):
         was_up = host.feeder.is_up
         host.feeder.end()
         answer("ordered" if was_up and self.random.random() < 0.7 else "killed")

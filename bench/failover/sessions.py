@@ -59,7 +59,7 @@ class Session:
             self.move()
         elif kind == "named" and host.feeder.is_up:
             # By an operator.
-            host.feeder.name(self.world.greatest + 3)
+            host.feeder.name(self.world.greatest + 100)
         elif kind == "stopped" and self.random.random() < 0.1 and not any(it.is_stopped for it in self.hosts):
             host.is_stopped = True
 

@@ -183,7 +183,7 @@ class Lane:
         self.hosts = [Host(self, name, f"{net}.{1 + at}") for at, name in enumerate("ab")]
         self.token, self.digest = os.path.join(folder, "token"), os.path.join(folder, "digest")
         self.others = []
-        self.drill = None
+        self.drill = self.supervisor = None
 
     def begin(self, drill, folder, root):
         """Starts all but the controllers' candidacy: that waits for the lock."""
@@ -191,6 +191,7 @@ class Lane:
         os.makedirs(folder)
         for host in self.hosts:
             host.set(os.path.join(folder, host.name))
+            host.parts = []
         self.journal_folder = os.path.join(folder, "journal")
         os.makedirs(self.journal_folder)
         own = [f"{self.namespace}=n:"]
@@ -203,8 +204,9 @@ class Lane:
         for dn in range(1, 4):
             self.start("datanode", str(dn), self.address, os.path.join(folder, f"dn{dn}"), *addresses)
         self.start("watcher", TOKEN, os.path.join(folder, "watched"), *addresses)
-        self.is_running = True
-        threading.Thread(target=self.supervise, daemon=True).start()
+        self.is_over = threading.Event()
+        self.supervisor = threading.Thread(target=self.supervise, daemon=True)
+        self.supervisor.start()
 
     def start(self, name, *words, **surroundings):
         with open(os.path.join(self.place, "others.log"), "a") as output:
@@ -226,17 +228,17 @@ class Lane:
         raise TimeoutError("the journal does not begin")
 
     def supervise(self):
-        while self.is_running:
+        while not self.is_over.wait(0.05):
             for host in self.hosts:
                 for part in host.parts:
                     part.look()
-            time.sleep(0.05)
 
     def other(self, host):
         return next(it for it in self.hosts if it is not host)
 
     def end(self):
-        self.is_running = False
+        self.is_over.set()
+        self.supervisor.join()
         for host in self.hosts:
             host.end()
         network.kill_all(self.namespace)

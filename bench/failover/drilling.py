@@ -93,7 +93,7 @@ class Drill:
         lane = self.lane
         folder = os.path.join(lane.folder, str(self.number))
         lane.begin(self, folder, f"/drills/{self.number}")
-        words = [os.path.join(HERE, "holder"), lane.ensemble.hosts, lane.root, DIGEST, str(lane.ttl)]
+        words = [os.path.join(HERE, "holder"), lane.ensemble.hosts, lane.root, DIGEST, str(2 * lane.ttl)]
         how = {"stdin": subprocess.PIPE, "stdout": subprocess.PIPE, "text": True}
         self.holder = subprocess.Popen(network.inside(lane.namespace, *words), **how)
         if self.holder.stdout.readline() != "held\n":

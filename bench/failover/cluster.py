@@ -13,7 +13,6 @@ import network
 HERE = os.path.dirname(os.path.realpath(__file__))
 TOP = os.path.join(HERE, "..", "..")
 FEED = os.path.join(TOP, "feed", "zulurowan-feed")
-FAKETIME = "/usr/lib/x86_64-linux-gnu/faketime/libfaketime.so.1"
 TOKEN = "a-token-of-the-drills"
 DIGEST = "drills:password-of-the-drills"
 STEP = re.compile(r"zulurowan-failover: (waits|watches|reads|rises|names|fences|writes|finalizes|promotes|starts|active|leaves)(?:: (.*))?$")
@@ -181,7 +180,7 @@ class Lane:
         self.address = f"{net}.3"
         self.namespace = network.make(f"j{number}", self.address)
         self.hosts = [Host(self, name, f"{net}.{1 + at}") for at, name in enumerate("ab")]
-        self.token, self.digest = os.path.join(folder, "token"), os.path.join(folder, "digest")
+        self.token, self.digest, self.clock = (os.path.join(folder, name) for name in ("token", "digest", "clock.so"))
         self.others = []
         self.drill = self.supervisor = None
 

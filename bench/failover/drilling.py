@@ -14,27 +14,25 @@ import time
 from typing import NamedTuple, Optional
 
 import network
-from cluster import DIGEST, FAKETIME, HERE, PROMOTED, clock
+from cluster import DIGEST, HERE, PROMOTED, clock
 
 STEPS = ("reads", "rises", "names", "fences", "writes", "finalizes", "promotes", "starts")
 # A drill begins, and ends, within so many seconds.
 READY_SECONDS, END_TTLS = 30, 15
-# Each fault, the steps at which it comes, None where one is drawn, and how often in a hundred drills.
-TAKEOVER = {
-    **{"controller killed": 10, "feeder killed": 4, "program killed": 4, "writer killed": 4},
-    **{"controller stopped": 5, "feeder stopped": 4, "program stopped": 4},
-    **{"requests to ZooKeeper lost": 4, "answers of ZooKeeper lost": 4, "link to ZooKeeper cut": 4, "link to all cut": 4},
-    **{"folder unmounted": 4, "disk full": 4, "clock jumps": 4, "bad edit": 4, "fence fails": 4, "controller killed and cut off": 4},
-}
-ACTIVE = {
-    **{"host killed": 14, "program of the active killed": 6, "controller of the active killed": 4, "feeder of the active killed": 4},
-    **{"controller of the active stopped": 4, "link of the active to ZooKeeper cut": 4, "active cut off, with the lock later": 4},
-    **{"planned failover": 5, "controller of the active killed and cut off": 4},
-}
+TAKEOVER = (
+    *("controller killed", "feeder killed", "program killed", "writer killed", "controller stopped", "feeder stopped", "program stopped"),
+    *("requests to ZooKeeper lost", "answers of ZooKeeper lost", "link to ZooKeeper cut", "link to all cut", "folder unmounted"),
+    *("disk full", "clock jumps", "bad edit", "fence fails", "controller killed and cut off"),
+)
+ACTIVE = (
+    *("host killed", "program of the active killed", "controller of the active killed", "feeder of the active killed"),
+    *("controller of the active stopped", "link of the active to ZooKeeper cut", "active cut off, with the lock later"),
+    *("planned failover", "controller of the active killed and cut off"),
+)
 # It comes to all lanes at once, so these drills are alone. Each second one is behind a promotion.
 ALONE = "leader of ZooKeeper killed"
-# With these the feeder and the controllers of a drill have a clock that can be set.
-CLOCKED = ("clock jumps",)
+# With this the feeders and the controllers have a clock that can be set.
+CLOCKED = "clock jumps"
 
 
 class Wrong(Exception):
@@ -52,16 +50,17 @@ class Result(NamedTuple):
 
 
 class Drill:
-    def __init__(self, lane, number, fault, seed):
+    def __init__(self, lane, number, fault, seed, turn):
+        """`turn`: how often this fault came before. Each step has its turn."""
         self.lane, self.number, self.fault = lane, number, fault
         self.random = random.Random(seed)
         self.is_takeover = fault in TAKEOVER or fault == ALONE and number % 2 == 0
-        self.wanted = self.random.choice(STEPS)
+        self.wanted = STEPS[turn % len(STEPS)]
         self.host = None
         self.hit_at = self.hit_step = self.free_at = None
         self.lock = threading.Lock()
         self.timers = []
-        self.must_end_by = None
+        self.must_end_by = self.trouble = None
         self.is_freed = False
 
     # ---- Its course.
@@ -99,10 +98,10 @@ class Drill:
         if self.holder.stdout.readline() != "held\n":
             raise Wrong("the first active has not the lock")
         for host in lane.hosts:
-            if self.fault in CLOCKED:
+            if self.fault == CLOCKED:
                 host.clock = os.path.join(folder, f"clock-{host.name}")
                 set_clock(host.clock, 0)
-                host.surroundings = {"LD_PRELOAD": FAKETIME, "FAKETIME_TIMESTAMP_FILE": host.clock, "FAKETIME_NO_CACHE": "1", "FAKETIME_DONT_FAKE_MONOTONIC": "1"}
+                host.surroundings = {"LD_PRELOAD": lane.clock, "CLOCK_FILE": host.clock}
             host.start()
         if self.fault == "bad edit":
             self.wait("the standbys are not there", lambda: all(it.status().get("state") == "standby" for it in lane.hosts), READY_SECONDS)
@@ -176,6 +175,8 @@ class Drill:
         steady = 0
         while clock() < end and steady < 4:
             time.sleep(0.15)
+            if self.trouble:
+                raise Wrong(self.trouble)
             if self.fault == "fence fails" and self.hit_at and self.has_said("leaves", "fence:"):
                 return "with a fence that did not answer"
             is_over = self.hit_at is not None or self.is_settled()
@@ -305,7 +306,7 @@ class Drill:
 def set_clock(path, seconds):
     """The wall clock of who reads this file, so many seconds ahead."""
     with open(path, "w") as file:
-        file.write(f"{seconds:+d}\n")
+        file.write(f"{seconds}\n")
 
 
 # ---- The faults. Each takes the drill and the host to which it comes.
@@ -420,13 +421,19 @@ def kill_host(drill, host):
 def cut_off_then_lock(drill, host):
     """It is cut off without its controller while the other one is promoted, and then gets the lock alone."""
     lane, other = drill.lane, drill.lane.other(host)
+    # The switch of its power answers, and does nothing: this host is cut off, as a fence by network does it.
+    host.link.cut(lane.ensemble.addresses, others_than=True)
+    lane.ask_journal(do="isolate", host=host.name)
     host.controller.is_off = True
     host.controller.signal(signal.SIGKILL)
-    # The switch of its power answers, and does nothing: it cuts this host off, as a fence by network does.
-    lane.ask_journal(do="isolate", host=host.name)
-    host.link.cut(lane.ensemble.addresses, others_than=True)
 
     def go_on():
+        try:
+            course()
+        except Wrong as law:
+            drill.trouble = str(law)
+
+    def course():
         drill.wait("the other one is not promoted", lambda: other.step() == "active", END_TTLS * lane.ttl)
         other.controller.is_off = other.feeder.is_off = True
         other.controller.signal(signal.SIGKILL)
@@ -434,7 +441,7 @@ def cut_off_then_lock(drill, host):
         # Its session has to end first, and the lock with it.
         time.sleep(1.5 * lane.ttl)
         host.controller.is_off = False
-        drill.wait("the one that was cut off does not stand", lambda: host.has_left("was_cut_off") or host.has_left("other_holds"), END_TTLS * lane.ttl)
+        drill.wait("the one that was cut off does not find that out", lambda: host.has_left("was_cut_off"), END_TTLS * lane.ttl)
         host.link.mend()
         other.controller.is_off = other.feeder.is_off = False
 

@@ -75,6 +75,8 @@ class Session:
         world.is_troubled = False
         for host in self.hosts:
             host.is_mute = host.is_deaf = host.is_cut = False
+            if host.feeder.is_isolated:
+                host.feeder.end()
 
     def be_quiet(self):
         """Without faults somebody is active before long, and stays."""

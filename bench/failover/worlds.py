@@ -103,7 +103,7 @@ class Feeder:
         self.start()
 
     def start(self):
-        self.is_up, self.state, self.promoted = True, "standby", 0
+        self.is_up, self.state, self.promoted, self.is_isolated = True, "standby", 0, False
         self.txid = self.seen = 0
         self.pending = None
         self.follow()
@@ -268,6 +268,7 @@ class World:
         self.zookeeper = ZooKeeper(self)
         # The greatest epoch of a promotion; that of the last one for which the log was ended.
         self.greatest = self.ended = self.promotions = 0
+        self.last = None
         self.hosts = {name: Host(self, name) for name in "ab"}
 
     # ---- Time.
@@ -296,8 +297,11 @@ class World:
             raise Broken(f"promoted in epoch {epoch} behind {self.greatest}")
         self.greatest = epoch
         self.ended = self.ended if is_again else epoch
+        if is_again and self.last is not host:
+            raise Broken(f"{host.name} goes on behind a promotion of {self.last.name}")
+        self.last = host
         for other in self.hosts.values():
-            if other is not host and other.feeder.state == "active":
+            if other is not host and other.feeder.state == "active" and not other.feeder.is_isolated:
                 raise Broken(f"{other.name} is active while {host.name} is promoted")
         crumb = json.loads(self.zookeeper.nodes["breadcrumb"][0] or "{}")
         if not is_again and crumb.get("host") != host.name:
@@ -394,7 +398,11 @@ class World:
             answer(self.modules.asks.Failed("status", "status 1"))
             return
         other.writer = None
-        other.feeder.end()
+        if other.feeder.state == "active" and self.chance(0.3):
+            # It is cut off, and not ended: nobody is answered by it, and it goes on to think that it is active.
+            other.is_cut = other.feeder.is_isolated = True
+        else:
+            other.feeder.end()
         answer("")
 
     def finalize(self, host, _core, ask, answer, _session):

@@ -15,7 +15,7 @@ SENTENCE = re.compile(r"(?<=[\w`)\"*][.?!])\s+")
 CODE = re.compile(r"`([^`]+)`")
 TARGET = re.compile(r"\]\([^)]*\)")
 FILE = re.compile(r"(?<![\w./*-])(?:[\w.-]+/)*[\w-][\w.-]*\.([a-z]+)\b(?![\w/*])")
-TOPS = r"(?:\.ci|bench|crates|dist|docs|examples|feed|src|specs|proofs|must-fail)"
+TOPS = r"(?:\.ci|bench|crates|dist|docs|examples|failover|feed|src|specs|proofs|must-fail)"
 PATH = re.compile(rf"(?<![\w./*<-])(?:\.\./)*({TOPS}/[\w./*-]*[\w*])/?(?![\w$/])")
 OF_CRATE = re.compile(r"\b(?:src|specs|proofs|must-fail)/")
 NAMES = re.compile(r"(?<!\w)((?:\w+::)+\w+)")

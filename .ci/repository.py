@@ -95,13 +95,13 @@ def edits():
 
 @functools.cache
 def names_of_code():
-    """Each name that code, definitions and the feeder use, each crate of crates.txt, and each file by its name alone."""
+    """Each name that code, definitions, the feeder and the failover use, each crate of crates.txt, and each file by its name alone."""
     words = set(re.findall(r"[\w-]+", read("crates.txt")))
     for name in tracked():
         words.update(os.path.basename(name).split(".")[:1])
         if name.startswith("crates/") and name.endswith((".rt", ".antt")) and "/proofs/" not in name:
             words.update(re.findall(r"[^\W\d]\w*", read(name)))
-        if name.startswith("feed/") and name.endswith(".py"):
+        if name.startswith(("feed/", "failover/")) and name.endswith(".py"):
             words.update(re.findall(r"[^\W\d]\w*", read(name)))
     return words
 
@@ -162,7 +162,7 @@ def is_path_of_names(path, homes):
 @functools.cache
 def scripts():
     """The files that are run."""
-    tops = (".ci/", "bench/", "dist/", "examples/", "feed/")
+    tops = (".ci/", "bench/", "dist/", "examples/", "failover/", "feed/")
     return {name for name in tracked() if name.startswith(tops) and os.access(path_of(name), os.X_OK)}
 
 

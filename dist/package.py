@@ -28,6 +28,7 @@ COMMANDS = {
     "zulurowan-replicas": "examples/oev/replicas",
     "zulurowan-follow": "examples/oev/follow",
     "zulurowan-feed": "feed/zulurowan-feed",
+    "zulurowan-failover": "failover/zulurowan-failover",
 }
 OPTION = re.compile(r" +(?:(-\w), )?(--[\w-]+)(?: <?([^\s<>]+)>?)?(?: {2,}(.*))?")
 ARGUMENT = re.compile(r"  ([A-Z]+)(?: {2,}(.*))?")
@@ -44,10 +45,13 @@ Architecture: amd64
 Maintainer: Zulurowan maintainers <maintainers@users.noreply.zulurowan.example>
 Installed-Size: {size}
 Depends: libc6 (>= {glibc}), python3 (>= 3.8)
+Recommends: python3-kazoo
+Suggests: zookeeper
 Section: admin
 Priority: optional
 Description: verified core of the standby NameNode of HDFS
  Audits a cluster's checkpoints, judges its replicas, follows its edit log, and keeps a standby in service.
+ zulurowan-failover promotes one over ZooKeeper: it wants python3-kazoo, and python3 3.9 or later.
 """
 
 

@@ -45,7 +45,7 @@ class Packaged:
         if deb is None:
             return
         listed = self.call("dpkg-deb", "-c", deb).stdout
-        for name in (*(f"usr/bin/{it}" for it in COMMANDS), *(f"lib/systemd/system/zulurowan-{it}" for it in ("watch.timer", "feed.service"))):
+        for name in (*(f"usr/bin/{it}" for it in COMMANDS), *(f"lib/systemd/system/zulurowan-{it}" for it in ("watch.timer", "feed.service", "failover.service"))):
             self.tally.holds(f"{name} of the package", re.search(rf" \./{re.escape(name)}(?: ->|$)", listed, re.M), listed[:2000])
         self.call("dpkg-deb", "-x", deb, self.top, check=True)
         self.commands()

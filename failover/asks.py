@@ -11,7 +11,7 @@ An ask has a kind, arguments, and the seconds within which it is answered. Kinds
     epoch HOST E               names an epoch to a feeder: {"epoch", "state"}
     fence HOST E, finalize E, active E T     a hook: what it printed
     promote T E WITHIN         asks the own service for a promotion: (status, body)
-    stop                       ends the own service: `ordered`, or `killed`
+    stop PATIENCE              ends the own service, by a signal if it takes longer than so many seconds: `ordered`, `killed`, or `gone`
 
 Each may be answered by Failed instead. A request that may have been carried out all the same is Failed too.
 """

@@ -103,6 +103,8 @@ class Hands:
             self.ask_zookeeper(ask, until, answer)
         else:
             work = self.work(number, ask)
+            # What ends the own service is never too late.
+            until = until if ask.kind != "stop" else float("inf")
             threading.Thread(target=self.do, args=(number, work, until, answer), daemon=True).start()
 
     def open(self, answer):
@@ -138,7 +140,7 @@ class Hands:
             self.running[number] = held = Held()
             return lambda: self.own.feeder.promote(*ask.arguments, held.hold)
         if ask.kind == "stop":
-            return self.own.stop
+            return lambda: self.own.stop(*ask.arguments)
         self.running[number] = hook = Hook(self.commands[ask.kind], self.arguments(ask))
         return lambda: hook.run(ask.within)
 

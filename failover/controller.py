@@ -53,6 +53,8 @@ class Controller:
         # Whether that breadcrumb may be taken away where this host was not promoted.
         self.may_clear = False
         self.is_freed = self.is_leaving = False
+        # Whether who leaves has ended the own service.
+        self.has_ended = False
         # The move that room was made for, and until when.
         self.room, self.room_until = None, now
         # It does not stand before this time; and how long the next pause is.
@@ -139,12 +141,15 @@ class Controller:
         self.advance(None)
 
     def lose(self, code, text, is_lock_lost=True):
-        """The lock may not be believed any more, or the own service not be relied on. Who leaves already goes on with that."""
-        if self.lock is None:
+        """The lock may not be believed any more, or the own service not be relied on.
+
+        Who leaves already goes on with that, but is in a hurry where the lock is lost.
+        """
+        if self.lock is None or (self.is_leaving and not is_lock_lost):
             return
         if is_lock_lost:
             self.lock = None
-        if not self.is_leaving:
+        if not (self.is_leaving and self.has_ended):
             is_clear = code == "service_deposed" and self.settings.journal_refuses
             self.turn(life(self, GivenUp(code, text, pause=False, is_clear=is_clear)))
 

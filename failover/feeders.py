@@ -19,8 +19,8 @@ from asks import Failed, Health
 HEALTH_SECONDS = 1.0
 # A feeder that is gone is tried again after so many seconds.
 AGAIN_SECONDS = 0.1
-# The own service has so long to end itself, and then so long to be gone behind a signal.
-STOP_SECONDS, KILL_SECONDS = 0.2, 1.0
+# What is killed is gone within so many seconds.
+KILL_SECONDS = 1.0
 MOST_BYTES = 65_536
 
 
@@ -94,8 +94,10 @@ class Process:
     def kill(self):
         signal.pidfd_send_signal(self.descriptor, signal.SIGKILL)
 
-    def close(self):
-        os.close(self.descriptor)
+    def __del__(self):
+        descriptor = getattr(self, "descriptor", None)
+        if descriptor is not None:
+            os.close(descriptor)
 
 
 class Own:
@@ -153,14 +155,14 @@ class Own:
                 self.put("silent")
                 since = time.monotonic()
 
-    def stop(self):
-        """Ends the own service: in order, or by a signal where that hangs. Answers how."""
-        process, until = self.process, time.monotonic() + STOP_SECONDS
+    def stop(self, patience):
+        """Ends the own service: in order, or by a signal where that takes longer. Answers how."""
+        process, until = self.process, time.monotonic() + patience
         if process is None or process.has_ended(0):
             return "gone"
         is_ordered = False
         try:
-            is_ordered = self.feeder.post("/stop", {}, STOP_SECONDS)[0] == 200
+            is_ordered = self.feeder.post("/stop", {}, patience)[0] == 200
         except (OSError, http.client.HTTPException):
             pass
         if is_ordered and process.has_ended(until - time.monotonic()):

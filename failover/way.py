@@ -18,7 +18,9 @@ ROOM_SECONDS, OUT_SECONDS = 5, 10
 LOOK_SECONDS = 1
 # More than a promotion may wait for the log.
 ANSWER_SECONDS = 6
-# The own service is asked to end, and ended: the hands have both done by then.
+# The own service has so long to end itself: where an operator asked, and where the lock may go. Then a signal ends it.
+ORDERLY_SECONDS, HASTY_SECONDS = 5, 0.2
+# More than the hands take for either.
 STOP_SECONDS = 2
 GREATEST_EPOCH = 2**31 - 1
 FIRST_PAUSE, LAST_PAUSE = 2, 60
@@ -40,16 +42,18 @@ def life(core, lost=None):
 
 def leave(core, why):
     """Ends the own service, if it may be active, and then gives the lock back."""
-    core.is_leaving = True
+    core.is_leaving, core.has_ended = True, False
     core.refused = why.code, str(why), core.now
     core.refusals[why.code] += 1
     core.at("leaves", f"{why.code}: {why}")
     is_clear = why.is_clear
     if core.may_be_active or core.is_active():
-        ended = yield Ask("stop", (), STOP_SECONDS)
+        patience = ORDERLY_SECONDS if core.is_sure() and why.code in ("moved", "ending") else HASTY_SECONDS
+        ended = yield Ask("stop", (patience,), patience + STOP_SECONDS)
         core.may_be_active, core.health = False, None
         core.tell(f"the own service was ended: {ended.text if isinstance(ended, Failed) else ended}")
         is_clear = is_clear or (ended == "ordered" and core.settings.journal_refuses)
+    core.has_ended = True
     if is_clear and core.crumb is not None and core.is_sure():
         cleared = yield Ask("write", ("breadcrumb", "", core.crumb), core.ttl)
         core.tell("the breadcrumb could not be taken away" if isinstance(cleared, Failed) else "the breadcrumb was taken away")
@@ -97,7 +101,7 @@ def wait_for_lock(core, holder):
 def has_room(core):
     """Whether a free lock may be taken now: where a planned failover names another host, that one goes first."""
     node = given((yield Ask("read", ("move",), core.ttl)), "no_zookeeper")
-    move = members_of(node.text)
+    move = move_in(node)
     if not move or move["to"] == core.settings.host:
         return True
     if core.room != node.version:
@@ -119,7 +123,7 @@ def lead(core):
     for _ in range(ROUNDS):
         core.at("reads")
         node = given((yield Ask("read", ("breadcrumb",), core.ttl)), "no_zookeeper")
-        crumb = members_of(node.text)
+        crumb = members_of(node.text, "host", "epoch")
         is_own = crumb.get("host") == core.settings.host
         if core.is_active() and crumb and not is_own:
             raise GivenUp("was_cut_off", f"the own service is active, and the breadcrumb names {crumb['host']}", pause=False)
@@ -141,7 +145,7 @@ def lead(core):
 def take_over(core, node, least):
     yield from rise(core, least)
     answers = yield from name_epoch(core, core.settings.hosts)
-    yield from fence(core, members_of(node.text), answers)
+    yield from fence(core, members_of(node.text, "host"), answers)
     yield from write_crumb(core, node.version)
     txid = yield from finalize(core)
     core.txid = txid
@@ -258,11 +262,19 @@ def reign(core):
 def look_at_move(core, is_over):
     """Goes where a planned failover names another host."""
     node = yield Ask("read", ("move",), core.ttl)
-    move = {} if isinstance(node, Failed) else members_of(node.text)
+    move = move_in(node)
     if move and not is_over and move["from"] == core.settings.host != move["to"]:
         raise GivenUp("moved", f"a planned failover goes to {move['to']}", pause=False)
-    if move:
+    if not isinstance(node, Failed) and node.text:
         yield Ask("write", ("move", "", node.version), core.ttl)
+
+
+def move_in(node):
+    """The planned failover that a node asks for. What is none is no reason to leave, and none to wait."""
+    try:
+        return {} if isinstance(node, Failed) else members_of(node.text, "from", "to")
+    except GivenUp:
+        return {}
 
 
 # ---- Answers.
@@ -283,6 +295,12 @@ def write(core, name, text, version):
     return given(value, "no_zookeeper")
 
 
-def members_of(text):
-    """What a node has: an object of JSON, or nothing."""
-    return json.loads(text) if text else {}
+def members_of(text, *names):
+    """What a node has: an object of JSON with these members, all texts or numbers, or nothing."""
+    try:
+        found = json.loads(text) if text else {}
+        if not found or type(found) is dict and found.keys() >= set(names):
+            return found
+    except ValueError:
+        pass
+    raise GivenUp("bad_node", f"a node has {text[:40]!r}")

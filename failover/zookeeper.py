@@ -91,11 +91,11 @@ class Session:
         threading.Thread(target=self.stop, daemon=True).start()
 
     def stop(self):
-        try:
-            self.client.stop()
-            self.client.close()
-        except Exception:  # whatever the client makes of a connection that is gone: its session runs out
-            pass
+        for end in (self.client.stop, self.client.close):
+            try:
+                end()
+            except Exception:  # whatever the client makes of a connection that is gone: its session runs out
+                pass
 
     # ---- Asks.
 
@@ -123,7 +123,7 @@ class Session:
     def watch(self):
         lock = self.place.of("lock")
         result = self.client.get_async(lock, watch=self.seen)
-        return _or_none(self.client, result), lambda value: value and Holder(json.loads(value[0])["host"], value[1].version)
+        return _or_none(self.client, result), lambda value: value and Holder(host_in(value[0]), value[1].version)
 
     def seen(self, event):
         """The lock was written, which its holder does all the time, or is gone."""
@@ -155,6 +155,14 @@ class Session:
 
     def write(self, name, text, version):
         return self.client.set_async(self.place.of(name), text.encode(), version), lambda stat: stat.version
+
+
+def host_in(data):
+    """Who has a lock. One that no controller made is somebody else's."""
+    try:
+        return str(json.loads(data)["host"])
+    except (ValueError, KeyError, TypeError):
+        return "?"
 
 
 def _or_none(client, result):

@@ -29,6 +29,8 @@ ACTIVE = (
     *("controller of the active stopped", "link of the active to ZooKeeper cut", "active cut off, with the lock later"),
     *("planned failover", "controller of the active killed and cut off"),
 )
+# Who is cut off without its controller is so as it may be active.
+CUT_OFF_AT = ("promotes", "writes", "starts")
 # It comes to all lanes at once, so these drills are alone. Each second one is behind a promotion.
 ALONE = "leader of ZooKeeper killed"
 # With this the feeders and the controllers have a clock that can be set.
@@ -55,7 +57,7 @@ class Drill:
         self.lane, self.number, self.fault = lane, number, fault
         self.random = random.Random(seed)
         self.is_takeover = fault in TAKEOVER or fault == ALONE and number % 2 == 0
-        self.wanted = STEPS[turn % len(STEPS)]
+        self.wanted, self.turn = STEPS[turn % len(STEPS)], turn
         self.host = None
         self.hit_at = self.hit_step = self.free_at = None
         self.lock = threading.Lock()
@@ -137,7 +139,7 @@ class Drill:
         if self.fault == "fence fails":
             return "reads"
         if self.fault == "controller killed and cut off":
-            return "promotes"
+            return CUT_OFF_AT[self.turn % len(CUT_OFF_AT)]
         if self.fault in ("folder unmounted", "disk full"):
             return self.wanted if self.wanted != "starts" else "fences"
         return self.wanted
@@ -225,10 +227,12 @@ class Drill:
         """What was acknowledged in a lower epoch is in each log that was ended for a promotion."""
         with open(os.path.join(self.lane.journal_folder, "acknowledged")) as file:
             acknowledged = [tuple(map(int, line.split())) for line in file]
+        before = None
         for _, host, txid, epoch, is_ended in promoted:
+            # Who goes on as the active one goes on with its writer.
+            is_new, before = is_ended or host is not before, host
             lost = [it for it in acknowledged if it[1] < epoch and it[0] > txid]
-            # A later promotion of the same host goes on with its writer.
-            if lost and is_ended:
+            if lost and is_new:
                 raise Wrong(f"{len(lost)} acknowledged edits are above TXID {txid}, at which {host.name} was promoted in epoch {epoch}")
 
     def judge_watched(self):
@@ -471,7 +475,13 @@ def move(drill, host):
         raise Wrong(f"the planned failover: {done.stdout}{done.stderr}")
 
 
-def kill_for_good(drill, host):
+def end_controller(_drill, host):
+    host.controller.is_off = True
+    host.controller.signal(signal.SIGKILL)
+
+
+def kill_controller(drill, host):
+    """It is started again, or is not."""
     host.controller.is_off = drill.random.random() < 0.5
     host.controller.signal(signal.SIGKILL)
 
@@ -516,7 +526,8 @@ FAULTS = {
     "controller killed and cut off": kill_and_cut_off,
     "host killed": kill_host,
     "program of the active killed": kill_those("--live"),
-    "controller of the active killed": kill_for_good,
+    "controller of the active killed": kill_controller,
+    "controller of the active killed for good": end_controller,
     "feeder of the active killed": kill("feeder"),
     "controller of the active stopped": stop(controllers),
     "link of the active to ZooKeeper cut": cut_active,

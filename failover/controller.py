@@ -153,6 +153,14 @@ class Controller:
             is_clear = code == "service_deposed" and self.settings.journal_refuses
             self.turn(life(self, GivenUp(code, text, pause=False, is_clear=is_clear)))
 
+    def give_back(self):
+        """Ends the session, and the lock with it. What was written to keep that is nobody's any more."""
+        self.lock = self.crumb = None
+        for number, (ask, _) in list(self.asked.items()):
+            if ask.kind == "touch":
+                del self.asked[number]
+        self.act("close")
+
     # ---- Events.
 
     def tick(self):

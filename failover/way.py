@@ -57,8 +57,7 @@ def leave(core, why):
     if is_clear and core.crumb is not None and core.is_sure():
         cleared = yield Ask("write", ("breadcrumb", "", core.crumb), core.ttl)
         core.tell("the breadcrumb could not be taken away" if isinstance(cleared, Failed) else "the breadcrumb was taken away")
-    core.lock = core.crumb = None
-    core.act("close")
+    core.give_back()
     core.out_until = core.now + (core.pause if why.pause else OUT_SECONDS if why.code == "moved" else RETRY_SECONDS)
     core.pause = min(2 * core.pause, LAST_PAUSE) if why.pause else core.pause
     core.is_leaving = False

@@ -474,6 +474,21 @@ def check_token(tally, place):
     tally.same("a promotion with the token", told[0], 200)
 
 
+def check_both_doors(tally, place):
+    """With a token and a socket operators come by either."""
+    token, port = "t" * 32, free_port()
+    with open(os.path.join(place.folder, "token"), "w") as file:
+        file.write(f"{token}\n")
+    feed = Feed(place, "--token", file.name, "--operators", f"127.0.0.1:{port}", "--socket", place.door)
+    tally.same("by the socket, without the token", feed.ask("GET", "/status")[0], 200)
+    connection = http.client.HTTPConnection("127.0.0.1", port, timeout=SECONDS)
+    for shown, status in (("x", 401), (token, 200)):
+        connection.request("GET", "/status", headers={"Authorization": f"Bearer {shown}"})
+        answer = connection.getresponse()
+        tally.same(f"by the address, with a token of {len(shown)} bytes", (answer.status, bool(answer.read())), (status, True))
+    connection.close()
+
+
 def free_port():
     with socket.socket() as found:
         found.bind(("127.0.0.1", 0))
@@ -562,6 +577,7 @@ PARTS = [
     check_told_faults,
     check_crowds,
     check_token,
+    check_both_doors,
     check_epochs,
     check_hang,
     check_following,

@@ -124,11 +124,12 @@ def lead(core):
         node = given((yield Ask("read", ("breadcrumb",), core.ttl)), "no_zookeeper")
         crumb = members_of(node.text, "host", "epoch")
         is_own = crumb.get("host") == core.settings.host
-        if core.is_active() and crumb and not is_own:
-            raise GivenUp("was_cut_off", f"the own service is active, and the breadcrumb names {crumb['host']}", pause=False)
+        if core.is_active() and not is_own:
+            # Somebody was promoted since, and may have been ended in order.
+            raise GivenUp("was_cut_off", f"the own service is active, and the breadcrumb names {crumb.get('host', 'nobody')}", pause=False)
         core.crumb = node.version if is_own else None
         # A writer of this host may go on from before, unless the journal refuses it.
-        core.may_clear = core.settings.journal_refuses or not (is_own or core.is_active())
+        core.may_clear = core.settings.journal_refuses or not is_own
         try:
             if core.is_active():
                 yield from go_on(core, node, least)
@@ -153,7 +154,7 @@ def take_over(core, node, least):
 
 
 def go_on(core, node, least):
-    """The own service is active already, and the breadcrumb names nobody else: it is asked first, so that nobody is deposed."""
+    """The own service is active already, and the breadcrumb names it: it is asked first, so that nobody is deposed."""
     yield from rise(core, least)
     core.txid = core.health.txid
     yield from promote(core, core.txid, 0)

@@ -35,7 +35,8 @@ class Part:
         self.ended_at = None
         surroundings = {**os.environ, "DRILL_HOST": self.host.name, **self.host.surroundings}
         output = subprocess.PIPE if self.name == "controller" else open(os.path.join(self.host.folder, f"{self.name}.log"), "a")
-        self.process = subprocess.Popen(self.words, stdin=subprocess.DEVNULL, stdout=subprocess.DEVNULL, stderr=output, env=surroundings, start_new_session=True)
+        nothing = {"stdin": subprocess.DEVNULL, "stdout": subprocess.DEVNULL}
+        self.process = subprocess.Popen(self.words, stderr=output, env=surroundings, start_new_session=True, **nothing)
         if self.name == "controller":
             threading.Thread(target=self.host.listen, args=(self.process.stderr,), daemon=True).start()
         else:

@@ -1,6 +1,5 @@
 """ZooKeeper for drills: three servers of Debian's package, each in a namespace of its own, up between drills."""
 import os
-import socket
 import subprocess
 import time
 
@@ -16,7 +15,11 @@ maxClientCnxns=0
 admin.enableServer=false
 4lw.commands.whitelist=srvr
 """
-LOG = "log4j.rootLogger=WARN, file\nlog4j.appender.file=org.apache.log4j.FileAppender\nlog4j.appender.file.File={folder}/log\nlog4j.appender.file.layout=org.apache.log4j.SimpleLayout\n"
+LOG = """log4j.rootLogger=WARN, file
+log4j.appender.file=org.apache.log4j.FileAppender
+log4j.appender.file.File={folder}/log
+log4j.appender.file.layout=org.apache.log4j.SimpleLayout
+"""
 
 
 class Ensemble:
@@ -38,13 +41,15 @@ class Ensemble:
         folder = os.path.join(self.folder, f"z{1 + at}")
         os.makedirs(folder)
         servers = "".join(f"server.{1 + it}={address}:2888:3888\n" for it, address in enumerate(self.addresses))
-        for name, text in (("zoo.cfg", CONFIG.format(tick=self.tick, folder=folder) + servers), ("myid", f"{1 + at}\n"), ("log4j.properties", LOG.format(folder=folder))):
+        config = CONFIG.format(tick=self.tick, folder=folder) + servers
+        for name, text in (("zoo.cfg", config), ("myid", f"{1 + at}\n"), ("log4j.properties", LOG.format(folder=folder))):
             with open(os.path.join(folder, name), "w") as file:
                 file.write(text)
 
     def start(self, at):
         folder = os.path.join(self.folder, f"z{1 + at}")
-        words = ["java", "-Xmx128m", "-XX:+UseSerialGC", "-Dzookeeper.forceSync=no", f"-Dlog4j.configuration=file:{folder}/log4j.properties", "-cp", f"{folder}:{JAR}"]
+        words = ["java", "-Xmx128m", "-XX:+UseSerialGC", "-Dzookeeper.forceSync=no"]
+        words += [f"-Dlog4j.configuration=file:{folder}/log4j.properties", "-cp", f"{folder}:{JAR}"]
         words += ["org.apache.zookeeper.server.quorum.QuorumPeerMain", os.path.join(folder, "zoo.cfg")]
         with open(os.path.join(folder, "out"), "a") as output:
             self.processes[at] = subprocess.Popen(network.inside(self.namespaces[at], *words), stdin=subprocess.DEVNULL, stdout=output, stderr=output)

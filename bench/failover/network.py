@@ -73,7 +73,8 @@ class Link:
 
     def __init__(self, namespace):
         self.namespace = namespace
-        self.nft("add table inet cut; add chain inet cut in { type filter hook input priority 0; }; add chain inet cut out { type filter hook output priority 0; }")
+        chains = "".join(f"; add chain inet cut {way} {{ type filter hook {way}put priority 0; }}" for way in ("in", "out"))
+        self.nft("add table inet cut" + chains)
 
     def nft(self, text):
         run(*inside(self.namespace, "nft", text))

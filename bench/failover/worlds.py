@@ -398,7 +398,7 @@ class World:
             answer(self.modules.asks.Failed("status", "status 1"))
             return
         other.writer = None
-        if other.feeder.state == "active" and self.chance(0.3):
+        if other.feeder.state == "active" and self.chance(0.6):
             # It is cut off, and not ended: nobody is answered by it, and it goes on to think that it is active.
             other.is_cut = other.feeder.is_isolated = True
         else:

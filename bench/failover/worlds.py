@@ -41,8 +41,8 @@ class ZooKeeper:
         """Ends the sessions that nobody was heard of."""
         for session, it in list(self.sessions.items()):
             if self.world.now >= it.until:
-                self.world.expired(it.host, it.core)
                 self.close(session)
+                self.world.expired(it.host, it.core)
 
     def close(self, session):
         self.sessions.pop(session, None)
@@ -317,9 +317,9 @@ class World:
             raise Broken(f"a writer of epoch {host.writer} is acknowledged behind a promotion in epoch {self.ended}")
 
     def expired(self, host, core):
-        """A session ended. A controller that lives and did not stand still has ended its service by now."""
+        """A session ended. A controller that lives and did not stand still has ended its service by now, or has another one."""
         is_awake = core is host.core and core is not None and self.now - host.paused_until > TTL
-        if is_awake and host.feeder.state == "active":
+        if is_awake and host.feeder.state == "active" and not self.zookeeper.is_alive(host.session):
             raise Broken(f"{host.name} is active behind the end of its session")
 
     # ---- What a core asks.

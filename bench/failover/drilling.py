@@ -4,6 +4,7 @@
 promoted, and the fault comes to it. The laws are over what callers were answered, over what the journal acknowledged, and
 over the tables of who is active in the end.
 """
+import itertools
 import json
 import os
 import random
@@ -262,25 +263,27 @@ class Drill:
             log = [line for line in file if json.loads(line)["txid"] <= txid]
         sure, unsure = self.reports(host.name, status["instance"])
         tables = host.ask("/tables").decode()
-        for which in range(2 ** min(len(unsure), 3)):
-            taken = [row for at, row in enumerate(unsure[:3]) if which >> at & 1]
+        # Of those of each DataNode whose answer was lost some came, in order, and the rest did not.
+        for counts in itertools.product(*(range(len(rows) + 1) for rows in unsure)):
+            taken = [row for rows, count in zip(unsure, counts) for row in rows[:count]]
             if self.batch(log, sure + taken) == tables:
                 return
         with open(os.path.join(self.lane.place, "tables"), "w") as file:
             file.write(tables)
         with open(os.path.join(self.lane.place, "batch"), "w") as file:
             file.write(self.batch(log, sure))
-        raise Wrong(f"the tables of {host.name} at TXID {txid} are not those of the batch, with {len(sure)} requests and {len(unsure)} unsure")
+        raise Wrong(f"the tables of {host.name} at TXID {txid} are not those of the batch, with {len(sure)} requests and {sum(map(len, unsure))} unsure")
 
     def reports(self, host, instance):
-        """The reports that this start of a feeder took, and those whose answer was lost."""
+        """The reports that this start of a feeder took; and for each DataNode those behind them whose answer was lost."""
         sure, unsure = [], []
         for dn in range(1, 4):
             with open(os.path.join(self.lane.place, f"dn{dn}")) as file:
                 rows = [json.loads(line) for line in file if line.endswith("\n")]
             mine = [row for row in rows if row["host"] == host and row["instance"] == instance]
+            last = max((at for at, row in enumerate(mine) if row["status"] == 200), default=-1)
             sure += [row["reports"] for row in mine if row["status"] == 200]
-            unsure += [row["reports"] for row in mine[-1:] if row["status"] is None]
+            unsure.append([row["reports"] for row in mine[last + 1 :] if row["status"] is None][:4])
         return sure, unsure
 
     def batch(self, log, reports):

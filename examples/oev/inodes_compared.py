@@ -114,8 +114,9 @@ class Ours:
         return self.inodes.ids[directory.row] if isinstance(directory, Listed) else directory.inode.id
 
     def by_path(self, entries):
-        """Entries by their paths."""
-        return {path_by(self.entry_of, entry.id): entry for entry in entries}
+        """Entries by their paths, if they have some."""
+        paths = (path_by(self.entry_of, entry.id) for entry in entries)
+        return {path: entry for path, entry in zip(paths, entries) if path is not None}
 
     def entry_of(self, inode_id):
         """The entry of an id, or None."""

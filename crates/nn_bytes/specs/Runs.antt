@@ -17,6 +17,13 @@ is_printable_byte b = nat_le 32 b && nat_lt b 127 && not (b == 92)
 abbrev pub is_printable : List ℕ → Bool
 is_printable text = list_all is_printable_byte text
 
+-- No control character, and no backslash. So it needs no escape in JSON, if it is no quote.
+abbrev pub is_unescaped_byte : ℕ → Bool
+is_unescaped_byte b = nat_le 32 b && not (b == 92)
+
+abbrev pub is_unescaped : List ℕ → Bool
+is_unescaped text = list_all is_unescaped_byte text
+
 -- A byte that does not pass a test.
 abbrev pub fails : (ℕ → Bool) → ℕ → Bool
 fails p b = not (p b)

@@ -1,4 +1,4 @@
-//! How far a text goes before a byte, or is printable, or has digits, looked for in 16 bytes at a time; and where a line ends,
+//! How far a text goes before a byte, or is printable, or has no escapes, or has digits, looked for in 16 bytes at a time; and where a line ends,
 //! and whether it is blank.
 #![tactic(auto)]
 
@@ -10,10 +10,12 @@ ghost use Rattle.nn_bytes.specs.Runs.{is_other, is_neither};
 mod digits;
 mod lines;
 mod printable;
+mod unescaped;
 
 pub use digits::digit_run;
 pub use lines::{is_blank, line_end};
 pub use printable::{is_printable, printable_is_utf8, printable_run, printable_text};
+pub use unescaped::is_unescaped;
 use std::simd::prelude::*;
 
 /// How many bytes stand before the first `byte`, or in all where there is none.

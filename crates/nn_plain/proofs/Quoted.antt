@@ -1,10 +1,10 @@
--- A text in quotes in a printable line: its bytes are its content.
-use Rattle.std.proofs.Common.{◌≡◌, ℕ, zero, suc, ◌+◌, ◌-◌, ◌<◌, ◌≤◌, length, get_or, List, [], ◌∷◌, ◌++◌, take, drop, Bool, true, false, cond, not, nat_le, nat_lt, ◌&&◌, ◌||◌, ◌==◌, le-ltb, leb-true, ltb-true, refl, sym, ap, ◌∙◌, arith}
-use Rattle.std.proofs.lemmas.Bool.{and_parts, or_parts, not-true, eqb-false, ltb-false}
+-- A text in quotes in a line without escapes: its bytes are its content.
+use Rattle.std.proofs.Common.{◌≡◌, ℕ, zero, suc, ◌+◌, ◌-◌, ◌<◌, ◌≤◌, length, get_or, List, [], ◌∷◌, ◌++◌, take, drop, Bool, true, false, cond, not, nat_le, nat_lt, ◌&&◌, ◌||◌, ◌==◌, le-ltb, leb-true, refl, sym, ap, ◌∙◌, arith}
+use Rattle.std.proofs.lemmas.Bool.{and_from, and_parts, or_parts, not-true, eqb-false, ltb-false}
 use Rattle.std.specs.List.{prefix_len}
 use Rattle.std.specs.Str.{IsUtf8, IsCharBoundary}
 use Rattle.std.proofs.lemmas.Str.{IsCharBoundary-after_ascii}
-use Rattle.nn_bytes.specs.Runs.{is_printable_byte, is_printable}
+use Rattle.nn_bytes.specs.Runs.{is_printable, is_printable_byte, is_unescaped, is_unescaped_byte}
 use Rattle.nn_plain.specs.Bytes.{is_no_quote}
 use Rattle.nn_types.proofs.Lists.{between_places, byte_there}
 use Rattle.json.specs.Print.{escape, escape_byte}
@@ -36,34 +36,39 @@ plain_text d i stop is =
     let n : prefix_len is_plain (drop i d) ≡ stop - i = omega (arith, is) in
     ap (λ k. escape (take k (drop i d))) (sym n) ∙ run_plain (drop i d) ∙ ap (λ k. take k (drop i d)) n
 
--- ---- in a printable line only a quote ends the run
+-- ---- in a line without escapes only a quote ends the run
 
-byte_parts : (x : ℕ) → is_printable_byte x ≡ true → (32 ≤ x) × (x < 127) × ((x == 92) ≡ false)
-byte_parts x e =
-    let a = and_parts (nat_le 32 x && nat_lt x 127) _ e in
-    let b = and_parts (nat_le 32 x) _ a.0 in
-    (leb-true 32 x b.0, ltb-true x 127 b.1, not-true _ a.1)
-
-same_stop : (x : ℕ) → is_printable_byte x ≡ true → is_no_quote x ≡ is_plain x
-same_stop x e = let p = byte_parts x e in rw (p.2, le-ltb x 32 p.0) (at (x == 34))
+same_stop : (x : ℕ) → is_unescaped_byte x ≡ true → is_no_quote x ≡ is_plain x
+same_stop x e =
+    let p = and_parts (nat_le 32 x) _ e in
+    rw (not-true _ p.1, le-ltb x 32 (leb-true 32 x p.0)) (at (x == 34))
   where
     at : (b : Bool) → not b ≡ not ((b || false) || false)
     at true = refl
     at false = refl
 
-same_run : (xs : List ℕ) → is_printable xs ≡ true → prefix_len is_no_quote xs ≡ prefix_len is_plain xs
+same_run : (xs : List ℕ) → is_unescaped xs ≡ true → prefix_len is_no_quote xs ≡ prefix_len is_plain xs
 same_run [] e = refl
 same_run (x ∷ xs) e =
-    let p = and_parts (is_printable_byte x) _ e in
+    let p = and_parts (is_unescaped_byte x) _ e in
     (λ i. cond (same_stop x p.0 i) (1 + same_run xs p.1 i) 0)
 
-printable_rest : (xs : List ℕ) (n : ℕ) → is_printable xs ≡ true → is_printable (drop n xs) ≡ true
-printable_rest xs zero e = e
-printable_rest [] (suc n) e = refl
-printable_rest (x ∷ xs) (suc n) e = printable_rest xs n (and_parts (is_printable_byte x) _ e).1
+unescaped_rest : (xs : List ℕ) (n : ℕ) → is_unescaped xs ≡ true → is_unescaped (drop n xs) ≡ true
+unescaped_rest xs zero e = e
+unescaped_rest [] (suc n) e = refl
+unescaped_rest (x ∷ xs) (suc n) e = unescaped_rest xs n (and_parts (is_unescaped_byte x) _ e).1
 
-pub quoted_text : (d : List ℕ) (i stop : ℕ) → is_printable d ≡ true → stop ≡ i + prefix_len is_no_quote (drop i d) → escape (take (stop - i) (drop i d)) ≡ take (stop - i) (drop i d)
-quoted_text d i stop printable is = plain_text d i stop (is ∙ ap (λ n. i + n) (same_run (drop i d) (printable_rest d i printable)))
+-- printable bytes need no escape
+pub unescaped_if : (xs : List ℕ) → is_printable xs ≡ true → is_unescaped xs ≡ true
+unescaped_if [] e = refl
+unescaped_if (x ∷ xs) e =
+    let p = and_parts (is_printable_byte x) _ e in
+    let byte = and_parts (nat_le 32 x && nat_lt x 127) _ p.0 in
+    let low = and_parts (nat_le 32 x) _ byte.0 in
+    and_from _ _ (and_from _ _ low.0 byte.1) (unescaped_if xs p.1)
+
+pub quoted_text : (d : List ℕ) (i stop : ℕ) → is_unescaped d ≡ true → stop ≡ i + prefix_len is_no_quote (drop i d) → escape (take (stop - i) (drop i d)) ≡ take (stop - i) (drop i d)
+quoted_text d i stop unescaped is = plain_text d i stop (is ∙ ap (λ n. i + n) (same_run (drop i d) (unescaped_rest d i unescaped)))
 
 -- ---- the two quotes
 

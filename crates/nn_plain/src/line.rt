@@ -1,16 +1,17 @@
 //! The object that a plain line is, read member by member.
-ghost use Rattle.std.specs.Prelude.{◌≡◌, length, Some, IsTrue, true};
+ghost use Rattle.std.specs.Prelude.{◌≡◌, length, Some, IfSome, IsTrue, true};
 ghost use Rattle.std.specs.Str.{IsUtf8};
 ghost use Rattle.serde_json.specs.Data.{Members, object, no_members};
 ghost use Rattle.serde_json.specs.Read.{read};
-ghost use Rattle.nn_bytes.specs.Runs.{is_printable};
+ghost use Rattle.nn_bytes.specs.Runs.{is_unescaped};
 ghost use Rattle.nn_plain.specs.Ahead.{members_at};
 
 use crate::blocks::{plain_blocks, plain_scalar};
 use crate::tokens::Tokens;
 use crate::value::Slots;
-use nn_bytes::printable_text;
+use nn_bytes::{is_unescaped, printable_text};
 use std::alloc::Global;
+use std::str::from_utf8;
 
 /// Whether the bytes are a plain line. Then the slots have its members.
 ///
@@ -22,16 +23,41 @@ pub fn read_plain<'a, S: Slots<'a>>(alloc: Global, line: &'a [u8], slots: &mut S
     ensures read { IsTrue result → (ms : Members) × (read line.now ≡ Some (object ms)) × S.seen slots.new ms }
     ensures text { IsTrue result → IsUtf8 line.now }
 {
-    let Some(text) = printable_text(line) else {
+    let Some(text) = text_of(line) else {
         return false;
     };
-    read_printable(alloc, text, slots)
+    read_unescaped(alloc, text, slots)
 }
 
-// The same of a text that is known to be printable.
+// The bytes as a text, if they are UTF-8 and have no escapes. Of printable ones that is not asked.
 #[inline(always)]
-fn read_printable<'a, S: Slots<'a>>(alloc: Global, line: &'a str, slots: &mut S) -> bool
-    requires printable { is_printable line.now ≡ true }
+fn text_of(line: &[u8]) -> Option<&str>
+    ensures { IfSome result (λ text. (text.now ≡ line.now) × (is_unescaped text.now ≡ true) × IsUtf8 text.now) }
+{
+    if let Some(text) = printable_text(line) {
+        return Some(text);
+    }
+    other_text(line)
+}
+
+// The same of bytes that are not all printable ASCII.
+#[inline(never)]
+fn other_text(line: &[u8]) -> Option<&str>
+    ensures { IfSome result (λ text. (text.now ≡ line.now) × (is_unescaped text.now ≡ true) × IsUtf8 text.now) }
+{
+    if !is_unescaped(line) {
+        return None;
+    }
+    let Ok(text) = from_utf8(line) else {
+        return None;
+    };
+    Some(text)
+}
+
+// Whether a text without escapes is a plain line.
+#[inline(always)]
+fn read_unescaped<'a, S: Slots<'a>>(alloc: Global, line: &'a str, slots: &mut S) -> bool
+    requires unescaped { is_unescaped line.now ≡ true }
     requires none { S.seen slots.old no_members }
     ensures { IsTrue result → (ms : Members) × (read line.now ≡ Some (object ms)) × S.seen slots.new ms }
 {

@@ -15,7 +15,7 @@ from collections import Counter
 
 from driving import FEED, Failed, Feed, Place, preloaded
 from logs import files, full_report
-from teeth import faults
+from modules import faults
 
 ERRORS = {
     "openat": ("EIO", "ENOSPC", "ESTALE", "EACCES", "EINTR", "ENOENT"),

@@ -1,33 +1,21 @@
-"""The feeder's modules as one value, as they are or with a fault put back."""
-import importlib
+"""The feeder's modules, as they are or with a fault put back, and the known faults: the file `faults`."""
 import os
 import sys
-from types import ModuleType, SimpleNamespace
 
-FEED = os.path.join(os.path.dirname(os.path.realpath(__file__)), "..", "..", "feed")
-# In the order in which they import each other.
+HERE = os.path.dirname(os.path.realpath(__file__))
+sys.path.append(os.path.join(HERE, ".."))
+
+from known_faults import Sources, Stale
+
 NAMES = ("place", "names", "state", "program", "following", "segments", "folder", "store", "promotions", "keeping", "datanodes", "figures", "core")
+FEEDER = Sources(os.path.join(HERE, "..", "..", "feed"), NAMES, os.path.join(HERE, "faults"))
 
-
-def source(name):
-    with open(os.path.join(FEED, f"{name}.py"), encoding="utf-8") as file:
-        return file.read()
+faults = FEEDER.faults
 
 
 def feeder(changes=None):
-    """The modules. `changes` has new sources by the name of their module."""
-    sys.path.insert(0, FEED)
-    for name in NAMES:
-        sys.modules.pop(name, None)
-    try:
-        for name in NAMES:
-            if changes and name in changes:
-                module = ModuleType(name)
-                module.__file__ = os.path.join(FEED, f"{name}.py")
-                sys.modules[name] = module
-                exec(compile(changes[name], module.__file__, "exec"), module.__dict__)
-            else:
-                importlib.import_module(name)
-        return SimpleNamespace(**{name: sys.modules[name] for name in NAMES}, judge_state=sys.modules["state"])
-    finally:
-        sys.path.remove(FEED)
+    """The modules, loaded anew, with new sources by the name of their module."""
+    modules = FEEDER.loaded(changes)
+    # What the laws read a state with.
+    modules.judge_state = modules.state
+    return modules

@@ -8,6 +8,7 @@ import re
 from dumps import unescaped
 from formats import Refused
 from inodes import DIRECTORY
+from walk import ROOT
 
 UNKNOWN = None
 NOTHING_KNOWN = {}
@@ -19,12 +20,11 @@ OF_INODE = (
 
 # The extended attributes of a file, of which nothing is known where this one is UNKNOWN.
 XATTR = "xattr"
-# The one in which a directory has its storage policy, and the one with which all begin that HDFS itself sets.
+# The one in which a directory has its storage policy.
 POLICY_OF_DIRECTORY = "xattr SYSTEM hsm.block.storage.policy.id"
 
 OCTAL, DECIMAL = re.compile("[0-7]{1,8}"), re.compile("-?[0-9]{1,19}")
 
-ROOT = 16385
 NO_QUOTA, KEPT_QUOTA = "-1", str((1 << 63) - 1)
 STORAGE_TYPES = "RAM_DISK", "SSD", "DISK", "ARCHIVE", "PROVIDED", "NVDIMM"
 
@@ -33,7 +33,6 @@ STICKY, ALL_BITS = 0o1000, 0o1777
 IN_MODE = {("USER", ""), ("MASK", ""), ("OTHER", "")}
 # An ACL of no more entries is the mode alone.
 FEW_ENTRIES = 3
-
 
 # So many texts of sets are kept, with the numbers of these.
 KEPT_TEXTS = 10_000
@@ -104,7 +103,7 @@ def of_texts(is_file, permission, size, policy, names, space):
 
 
 def of_permission(text):
-    """The owner, the group and the mode in an element of an image, such as `hdfs:supergroup:rwxr-xr-x` in octal digits."""
+    """The owner, the group and the mode in an element of an image, such as `hdfs:supergroup:0755`."""
     parts = unescaped("permission", text).rsplit(":", 2) if text is not None else ()
     if len(parts) != 3:
         return {"owner": UNKNOWN, "group": UNKNOWN, "mode": UNKNOWN}
@@ -219,8 +218,8 @@ def of_members(is_file, owner, group, mode, size):
 
 
 def change(attributes, record, inode_id):
-    """Does to attributes what a record says. Answers whether it could say all."""
-    return CHANGES[record.opcode](attributes, record.data, inode_id)
+    """Does to attributes what a record says."""
+    CHANGES[record.opcode](attributes, record.data, inode_id)
 
 
 def set_permissions(attributes, data, _inode_id):

@@ -56,11 +56,12 @@ class Form:
         # The members that are passed over, and those in the groups of the expression.
         self.names = []
         self.groups = []
-        # The order of what a block has, if there are blocks; and whether there are members of which more is asked.
+        # The order of what a block has, if there are blocks.
         self.block = None
         self.match = re.compile(b"".join(self.parts_of_pattern(tags))).match
         if "TXID" not in self.groups:
             raise NoForm
+        # Whether there are members of which more is asked than their texts.
         self.has_others = not OTHERS.isdisjoint(self.names)
         places = [self.groups.index(name) + 1 if name in self.groups else 0 for name in ("TXID", *WANTED.get(opcode, PATHS))]
         # None stands before the groups, and is what is not there.

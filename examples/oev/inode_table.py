@@ -8,9 +8,9 @@ from array import array
 from hashlib import blake2b
 from typing import NamedTuple
 
-from attributes import ROOT
 from formats import to_json
-from inodes import DIRECTORY
+from inodes import DIRECTORY, NONE
+from walk import ROOT
 
 BUCKETS = 4096
 SUM_BYTES = 16
@@ -50,6 +50,11 @@ class InodeTable:
     def entry(self, row):
         attributes = self.sets.all[self.inodes.sets[row]]
         return Entry(self.inodes.ids[row], self.directories[row], self.full(self.inodes.name(row)), attributes)
+
+    def entry_of(self, inode_id):
+        """The entry of an id, or None."""
+        row = self.inodes.rows_of([inode_id])[0]
+        return None if row == NONE else self.entry(row)
 
     def leave_out(self, rows):
         """Compares these rows no more by sums."""

@@ -46,7 +46,7 @@ class Ours:
         """Finds what the log named. `ids_at` answers the ids of the paths of the second image."""
         self.number_made(ids_at)
         placed, displaced = {}, []
-        for directory, name, node in self.changes():
+        for _, directory, name, node in self.changes():
             row = self.image.row_of(directory.row, name) if isinstance(directory, Listed) else NONE
             inode = None if node is None else inode_of(node)
             if row not in (NONE, inode):
@@ -77,26 +77,20 @@ class Ours:
         return self.all.entry(row)._replace(attributes=self.followed.attributes_in(row))
 
     def changes(self):
-        """What directories have otherwise than an image: the directory, a name, and what has it, or None."""
-        ahead = [self.tree.root]
-        while ahead:
-            directory = ahead.pop()
-            for name, node in dict.items(directory):
-                yield directory, name, node
-                if is_directory(node):
-                    ahead.append(node)
-
-    def number_made(self, ids_at):
-        """Takes the ids that the second image has for what records without ids made."""
-        unnumbered, ahead = {}, [("", self.tree.root)]
+        """What directories have otherwise than an image: the path, the directory, a name, and what has it, or None."""
+        ahead = [("", self.tree.root)]
         while ahead:
             above, directory = ahead.pop()
             for name, node in dict.items(directory):
-                inode = None if node is None else inode_of(node)
-                if isinstance(inode, Made) and inode.id is None:
-                    unnumbered[f"{above}/{name}"] = inode
+                path = f"{above}/{name}"
+                yield path, directory, name, node
                 if is_directory(node):
-                    ahead.append((f"{above}/{name}", node))
+                    ahead.append((path, node))
+
+    def number_made(self, ids_at):
+        """Takes the ids that the second image has for what records without ids made."""
+        made = ((path, None if node is None else inode_of(node)) for path, _, _, node in self.changes())
+        unnumbered = {path: inode for path, inode in made if isinstance(inode, Made) and inode.id is None}
         for inode, found in zip(unnumbered.values(), ids_at(list(unnumbered)) if unnumbered else ()):
             inode.id = found
 
@@ -180,13 +174,13 @@ class InodesCompared:
         self.ours = ours
         self.second = second
         self.differing_in = differing_strictly if is_strict else differing
-        # How many are in the second image, what differs, as pairs of entries, and what no record tells, by kind.
-        self.differing = []
+        # What differs, as pairs of entries, the ids of bare files with both lists of blocks, and what no record tells, by kind.
+        self.differing, self.other_blocks = [], []
         self.open_keys = Counter()
         # Of how many inodes something was taken on trust.
         self.trusted = 0
         ours.look(second.ids_at)
-        self.other_blocks = []
+        # How many inodes are in the second image.
         theirs, sums, self.count, blocks = second.inodes(list(ours.named), list(ours.bare))
         for (inode_id, mine), found in zip(ours.bare.items(), blocks):
             if None not in (mine, found) and mine != found:

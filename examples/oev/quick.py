@@ -8,7 +8,7 @@ import re
 from array import array
 from collections import Counter
 from itertools import accumulate, chain
-from typing import NamedTuple
+from typing import Iterable, NamedTuple
 
 from formats import FIRST_BLOCK_ID
 from inodes import CLOSED, DIRECTORY, OPEN
@@ -74,7 +74,7 @@ class Columns(NamedTuple):
     block_ends: list
     passed: Counter
     # The kind of each inode and the texts of its attributes: three of a file, three of a directory.
-    attributes: list = ()
+    attributes: Iterable = ()
 
 
 class Known:
@@ -121,7 +121,7 @@ def inodes_in(data, at, first_gen):
         blocks,
         list(accumulate(counts)),
         passed_in(data[at:behind], kinds, len(blocks) // 3, sum(map(bool, opened)), sum(map(bool, counts))),
-        list(zip(kinds, owners, sizes, policies, folder_owners, quotas, spaces)),
+        zip(kinds, owners, sizes, policies, folder_owners, quotas, spaces),
     )
     return columns, behind
 

@@ -285,10 +285,4 @@ class Side:
         return self.table_of_inodes.of_buckets(buckets)
 
     def paths_of(self, ids):
-        inodes = self.dump.inodes
-
-        def entry_of(inode_id):
-            row = inodes.rows_of([inode_id])[0]
-            return None if row == NONE else self.table_of_inodes.entry(row)
-
-        return [path_by(entry_of, inode_id) for inode_id in ids]
+        return [path_by(self.table_of_inodes.entry_of, inode_id) for inode_id in ids]

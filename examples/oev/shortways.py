@@ -5,8 +5,8 @@ change of the tree, and has done nothing where it does not go.
 """
 from collections import Counter
 
-from bare import FEW_BLOCKS, is_bare
 from attributes import SETTING
+from bare import FEW_BLOCKS, is_bare
 from edits import LEFT_OUT, SNAPSHOTS
 from formats import FIRST_BLOCK_ID, Block
 from tree import File, Folder, is_directory

@@ -20,14 +20,6 @@ masked xs y long = bitmask_splat w8 eqb xs 16 y long (omega arith)
 pub run_of : (xs : List ℕ) (y : ℕ) → length xs ≡ 16 → cond (mask xs y == 0) 16 (count_trailing_zeros 64 (mask xs y)) ≡ prefix_len (is_other y) xs
 run_of xs y long = first_set_mask_l (λ x. x == y) xs 16 long (omega arith)
 
-pub none_there : (xs : List ℕ) (y m : ℕ) → length xs ≡ 16 → m ≡ mask xs y → m ≡ 0 → 16 ≡ prefix_len (is_other y) xs
-none_there xs y m long is zero_is = ap (λ k. cond (k == 0) 16 (count_trailing_zeros 64 k)) (sym zero_is ∙ is) ∙ run_of xs y long
-
-pub first_there : (xs : List ℕ) (y m : ℕ) → length xs ≡ 16 → m ≡ mask xs y → (m ≡ 0 → ⊥) → count_trailing_zeros 64 m ≡ prefix_len (is_other y) xs
-first_there xs y m long is some =
-    ap (λ b. cond b 16 (count_trailing_zeros 64 m)) (sym (ne_eqb m 0 some))
-    ∙ ap (λ k. cond (k == 0) 16 (count_trailing_zeros 64 k)) is ∙ run_of xs y long
-
 -- ---- the first of two bytes
 
 -- One byte more, where n bytes come before the first of the two, and m before the first of both.

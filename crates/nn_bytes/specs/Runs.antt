@@ -1,5 +1,5 @@
 -- Which bytes a run has.
-use Rattle.std.specs.Prelude.{ℕ, Bool, not, ◌&&◌, ◌==◌}
+use Rattle.std.specs.Prelude.{ℕ, Bool, not, nat_le, nat_lt, ◌&&◌, ◌==◌}
 
 -- A byte that is not this one.
 abbrev pub is_other : ℕ → ℕ → Bool
@@ -8,3 +8,11 @@ is_other a x = not (x == a)
 -- A byte that is none of these two.
 abbrev pub is_neither : ℕ → ℕ → ℕ → Bool
 is_neither a b x = not (x == a) && not (x == b)
+
+-- Printable ASCII, and no backslash.
+abbrev pub is_printable_byte : ℕ → Bool
+is_printable_byte b = nat_le 32 b && nat_lt b 127 && not (b == 92)
+
+-- A byte that does not pass a test.
+abbrev pub fails : (ℕ → Bool) → ℕ → Bool
+fails p b = not (p b)

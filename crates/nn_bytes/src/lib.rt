@@ -1,13 +1,19 @@
-//! How far a text goes before a byte, looked for in 16 bytes at a time; and where a line ends, and whether it is blank.
+//! How far a text goes before a byte, or is printable, or has digits, looked for in 16 bytes at a time; and where a line ends,
+//! and whether it is blank.
 #![tactic(auto)]
 
-ghost use Rattle.std.specs.Prelude.{◌≡◌, ◌+◌, ◌≤◌, ◌==◌, length, take, drop, not};
+ghost use Rattle.std.specs.Prelude.{◌≡◌, ◌+◌, ◌≤◌, ◌==◌, length, take, drop, cond, not};
+ghost use Rattle.std.specs.Int.Count.{count_trailing_zeros};
 ghost use Rattle.std.specs.List.{prefix_len};
 ghost use Rattle.nn_bytes.specs.Runs.{is_other, is_neither};
 
+mod digits;
 mod lines;
+mod printable;
 
+pub use digits::digit_run;
 pub use lines::{is_blank, line_end};
+pub use printable::{printable_is_utf8, printable_run};
 use std::simd::prelude::*;
 
 /// How many bytes stand before the first `byte`, or in all where there is none.
@@ -43,9 +49,19 @@ pub fn run_before_either(text: &[u8], a: u8, b: u8) -> usize
     i
 }
 
-// The 16 bytes from `from` on.
+/// How many of the 16 bytes from `from` on stand before the first `byte`.
 #[inline(always)]
-fn block_at(text: &[u8], from: usize) -> u8x16
+pub fn run_in_16(text: &[u8], from: usize, byte: u8) -> usize
+    requires { from + 16 ≤ length text.now }
+    ensures run { result ≡ prefix_len (is_other byte) (take 16 (drop from text.now)) }
+    ensures bound { result ≤ 16 }
+{
+    run_before_one(block_at(text, from), byte)
+}
+
+/// The 16 bytes from `from` on.
+#[inline(always)]
+pub fn block_at(text: &[u8], from: usize) -> u8x16
     requires { from + 16 ≤ length text.now }
     ensures { result ≡ take 16 (drop from text.now) }
 {
@@ -70,7 +86,14 @@ fn run_before_one(block: u8x16, byte: u8) -> usize
     ensures run { result ≡ prefix_len (is_other byte) block }
     ensures bound { result ≤ 16 }
 {
-    let found = block.simd_eq(u8x16::splat(byte)).to_bitmask();
+    first_set(block.simd_eq(u8x16::splat(byte)).to_bitmask())
+}
+
+// The place of the lowest bit that is set, and 16 where none is.
+#[inline(always)]
+fn first_set(found: u64) -> usize
+    ensures { result ≡ cond (found == 0) 16 (count_trailing_zeros 64 found) }
+{
     if found == 0 {
         return 16;
     }

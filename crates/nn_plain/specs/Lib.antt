@@ -3,3 +3,4 @@ pub mod Bytes
 pub mod Spelling
 pub mod Keys
 pub mod SpellingRows
+pub mod Words

@@ -12,6 +12,7 @@
 
 mod any;
 mod blocks;
+mod by_eight;
 mod line;
 mod number;
 mod object;

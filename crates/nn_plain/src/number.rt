@@ -5,6 +5,9 @@ ghost use Rattle.serde_json.specs.Data.{unsigned};
 ghost use Rattle.serde_json.specs.Read.{number_of};
 ghost use Rattle.nn_plain.specs.Bytes.{DigitsRead};
 
+use crate::by_eight::digits_in_block;
+use nn_bytes::block_at;
+
 /// The number that stands at `from`, and where it ends.
 #[inline(always)]
 pub(crate) fn number_at(text: &str, from: usize) -> Option<(u64, usize)>
@@ -36,6 +39,23 @@ fn digits_at(text: &[u8], from: usize) -> Option<(u64, usize)>
 // number stays below 2^64.
 #[inline(always)]
 fn digits_from(text: &[u8], from: usize) -> (usize, u64)
+    requires { from ≤ length text.now }
+    ensures read { DigitsRead text.now from result.0 result.1 }
+    ensures bound { (from ≤ result.0) × (result.0 ≤ length text.now) }
+    ensures small { result.1 < 10_000_000_000_000_000_000 }
+{
+    if text.len() - from >= 16 {
+        let (count, n) = digits_in_block(block_at(text, from));
+        if count < 16 {
+            return (from + count, n);
+        }
+    }
+    digits_one_by_one(text, from)
+}
+
+// The same, a digit at a time: for numbers of 16 digits or more, and for the last bytes of a line.
+#[inline(never)]
+fn digits_one_by_one(text: &[u8], from: usize) -> (usize, u64)
     requires { from ≤ length text.now }
     ensures read { DigitsRead text.now from result.0 result.1 }
     ensures bound { (from ≤ result.0) × (result.0 ≤ length text.now) }

@@ -1,6 +1,6 @@
 use Rattle.std.proofs.Common.{◌-◌, ◌<◌, ◌≤◌, length}
 use Rattle.nn_plain.specs.Bytes.{DigitsRead}
-use Rattle.nn_plain.proofs.number.digits_from.Given as goal
+use Rattle.nn_plain.proofs.number.digits_one_by_one.Given as goal
 
 abbrev pub invariant-loop-i : goal.invariant-loop-i
 invariant-loop-i l = record {

@@ -1,6 +1,6 @@
 use Rattle.std.proofs.Common.{refl, arith}
 use Rattle.nn_plain.proofs.Digits.{none_read, one_read}
-use Rattle.nn_plain.proofs.number.digits_from.Goals as goal
+use Rattle.nn_plain.proofs.number.digits_one_by_one.Goals as goal
 
 pub loop-i-init : goal.loop-i-init
 loop-i-init c = record { so_far = none_read c.args.text.now c.args.from; bound = (omega arith, c.requires); small = omega arith }

@@ -1,0 +1,33 @@
+-- Runs of printable bytes.
+use Rattle.std.proofs.Common.{◌≡◌, ℕ, zero, suc, ◌+◌, ◌<◌, Bool, true, false, cond, nat_le, nat_lt, ◌&&◌, List, [], ◌∷◌, get_or, take, ltb-true, arith, refl, ap, ap₂, ◌∙◌}
+use Rattle.std.specs.List.{list_all, prefix_len}
+use Rattle.std.specs.Str.{IsUtf8}
+use Rattle.std.proofs.lemmas.Bool.{and_parts}
+use Rattle.std.proofs.lemmas.Str.{IsUtf8-from_ascii}
+use Rattle.nn_bytes.specs.Runs.{is_printable_byte}
+
+-- ---- A run passes, and is UTF-8.
+
+pub run_passes : (p : ℕ → Bool) (xs : List ℕ) → list_all p (take (prefix_len p xs) xs) ≡ true
+run_passes p [] = refl
+run_passes p (x ∷ xs) = at (p x) refl (run_passes p xs)
+  where
+    at : (b : Bool) → p x ≡ b → list_all p (take (prefix_len p xs) xs) ≡ true → list_all p (take (cond b (1 + prefix_len p xs) 0) (x ∷ xs)) ≡ true
+    at true e ih =
+        let next : 1 + prefix_len p xs ≡ suc (prefix_len p xs) = omega arith in
+        ap (λ k. list_all p (take k (x ∷ xs))) next ∙ ap₂ (λ a b. a && b) e ih
+    at false e ih = refl
+
+ascii_byte : (x : ℕ) → is_printable_byte x ≡ true → x < 128
+ascii_byte x e =
+    let small = and_parts (nat_le 32 x && nat_lt x 127) _ e in
+    let below = and_parts (nat_le 32 x) _ small.0 in
+    omega (arith, ltb-true x 127 below.1)
+
+all_ascii : (xs : List ℕ) → list_all is_printable_byte xs ≡ true → (i : ℕ) → get_or xs i 0 < 128
+all_ascii [] e i = omega arith
+all_ascii (x ∷ xs) e zero = ascii_byte x (and_parts (is_printable_byte x) _ e).0
+all_ascii (x ∷ xs) e (suc i) = all_ascii xs (and_parts (is_printable_byte x) _ e).1 i
+
+pub printable_utf8 : (xs : List ℕ) → list_all is_printable_byte xs ≡ true → IsUtf8 xs
+printable_utf8 xs e = IsUtf8-from_ascii xs (all_ascii xs e)

@@ -1,0 +1,25 @@
+use Rattle.std.proofs.Common.{◌≡◌, ◌+◌, ◌≤◌, length, take, drop, ap, ◌∙◌, arith}
+use Rattle.std.specs.List.{prefix_len}
+use Rattle.nn_bytes.specs.Runs.{is_printable_byte}
+use Rattle.nn_bytes.proofs.Blocks.{whole_block, in_block}
+use Rattle.nn_bytes.proofs.printable.printable_run.Goals as goal
+
+pub returns-then-run-lt16-clause-run : goal.returns-then-run-lt16-clause-run
+returns-then-run-lt16-clause-run c =
+    let p = is_printable_byte in
+    let d = c.args.text.now in
+    let i = c.blocks-2.i in
+    let room : i + 16 ≤ length d = omega (arith, c.blocks-2.invariant.bound, c.blocks-2-test.true) in
+    let run : c.printable_in_block-run.result ≡ prefix_len p (take 16 (drop i d)) = c.printable_in_block-run.ensures.run ∙ ap (prefix_len p) c.block_at.ensures in
+    let here = in_block p d i room (omega (arith, run, c.if-run-lt16.true)) in
+    omega (arith, c.blocks-2.invariant.run, run, here)
+
+pub blocks-2-preserved : goal.blocks-2-preserved
+blocks-2-preserved c =
+    let p = is_printable_byte in
+    let d = c.args.text.now in
+    let i = c.blocks-2.i in
+    let room : i + 16 ≤ length d = omega (arith, c.blocks-2.invariant.bound, c.blocks-2-test.true) in
+    let run : c.printable_in_block-run.result ≡ prefix_len p (take 16 (drop i d)) = c.printable_in_block-run.ensures.run ∙ ap (prefix_len p) c.block_at.ensures in
+    let whole = whole_block p d i room (omega (arith, run, c.printable_in_block-run.ensures.bound, c.if-run-lt16.false)) in
+    record { run = omega (arith, c.blocks-2.invariant.run, whole); bound = room }

@@ -1,4 +1,4 @@
 mod Blocks
 pub mod Bytewise
-mod PrintableRuns
+pub mod PrintableRuns
 pub mod PieceLemmas

@@ -1,10 +1,13 @@
 -- Runs of printable bytes.
-use Rattle.std.proofs.Common.{◌≡◌, ℕ, zero, suc, ◌+◌, ◌<◌, Bool, true, false, cond, nat_le, nat_lt, ◌&&◌, List, [], ◌∷◌, get_or, take, ltb-true, arith, refl, ap, ap₂, ◌∙◌}
+use Rattle.std.proofs.Common.{length, ◌==◌, ◌≡◌, ℕ, zero, suc, ◌+◌, ◌<◌, Bool, true, false, cond, nat_le, nat_lt, ◌&&◌, List, [], ◌∷◌, get_or, take, ltb-true, arith, refl, sym, ap, ap₂, ◌∙◌}
 use Rattle.std.specs.List.{list_all, prefix_len}
 use Rattle.std.specs.Str.{IsUtf8}
-use Rattle.std.proofs.lemmas.Bool.{and_parts}
+use Rattle.std.proofs.lemmas.Bool.{and_parts, eqb-false, eqb-true}
+use Rattle.std.proofs.lemmas.List.{take_all}
+use Rattle.std.proofs.lemmas.List.Folds.{list_all_at}
+use Rattle.std.proofs.lemmas.List.Sums.{prefix_len-le-length, prefix_len_stops}
 use Rattle.std.proofs.lemmas.Str.{IsUtf8-from_ascii}
-use Rattle.nn_bytes.specs.Runs.{is_printable_byte}
+use Rattle.nn_bytes.specs.Runs.{is_printable, is_printable_byte}
 
 -- ---- A run passes, and is UTF-8.
 
@@ -24,10 +27,23 @@ ascii_byte x e =
     let below = and_parts (nat_le 32 x) _ small.0 in
     omega (arith, ltb-true x 127 below.1)
 
-all_ascii : (xs : List ℕ) → list_all is_printable_byte xs ≡ true → (i : ℕ) → get_or xs i 0 < 128
+all_ascii : (xs : List ℕ) → is_printable xs ≡ true → (i : ℕ) → get_or xs i 0 < 128
 all_ascii [] e i = omega arith
 all_ascii (x ∷ xs) e zero = ascii_byte x (and_parts (is_printable_byte x) _ e).0
 all_ascii (x ∷ xs) e (suc i) = all_ascii xs (and_parts (is_printable_byte x) _ e).1 i
 
-pub printable_utf8 : (xs : List ℕ) → list_all is_printable_byte xs ≡ true → IsUtf8 xs
+pub printable_utf8 : (xs : List ℕ) → is_printable xs ≡ true → IsUtf8 xs
 printable_utf8 xs e = IsUtf8-from_ascii xs (all_ascii xs e)
+
+-- ---- All bytes pass where the run is the whole text.
+
+pub whole_run : (p : ℕ → Bool) (xs : List ℕ) → (prefix_len p xs == length xs) ≡ list_all p xs
+whole_run p xs = at (prefix_len p xs == length xs) refl
+  where
+    at : (b : Bool) → (prefix_len p xs == length xs) ≡ b → (prefix_len p xs == length xs) ≡ list_all p xs
+    at true e =
+        let whole = eqb-true (prefix_len p xs) (length xs) e in
+        e ∙ sym (run_passes p xs) ∙ ap (list_all p) (take_all (prefix_len p xs) xs (omega (arith, whole)))
+    at false e =
+        let less : prefix_len p xs < length xs = omega (arith, prefix_len-le-length p xs, eqb-false (prefix_len p xs) (length xs) e) in
+        e ∙ sym (list_all_at p xs (prefix_len p xs) 0 less (prefix_len_stops p xs 0 less))

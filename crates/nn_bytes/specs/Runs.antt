@@ -1,5 +1,6 @@
 -- Which bytes a run has.
-use Rattle.std.specs.Prelude.{ℕ, Bool, not, nat_le, nat_lt, ◌&&◌, ◌==◌}
+use Rattle.std.specs.Prelude.{ℕ, List, Bool, not, nat_le, nat_lt, ◌&&◌, ◌==◌}
+use Rattle.std.specs.List.{list_all}
 
 -- A byte that is not this one.
 abbrev pub is_other : ℕ → ℕ → Bool
@@ -12,6 +13,9 @@ is_neither a b x = not (x == a) && not (x == b)
 -- Printable ASCII, and no backslash.
 abbrev pub is_printable_byte : ℕ → Bool
 is_printable_byte b = nat_le 32 b && nat_lt b 127 && not (b == 92)
+
+abbrev pub is_printable : List ℕ → Bool
+is_printable text = list_all is_printable_byte text
 
 -- A byte that does not pass a test.
 abbrev pub fails : (ℕ → Bool) → ℕ → Bool

@@ -1,9 +1,9 @@
 //! How far a text is printable, looked for in 16 bytes at a time.
 ghost use Rattle.std.specs.Prelude.{◌≡◌, ◌≤◌, List, ℕ, length, map, take, true};
-ghost use Rattle.std.specs.List.{list_all, prefix_len};
+ghost use Rattle.std.specs.List.{prefix_len};
 ghost use Rattle.std.specs.Simd.Lanes.{mask_l};
 ghost use Rattle.std.specs.Str.{IsUtf8};
-ghost use Rattle.nn_bytes.specs.Runs.{is_printable_byte, fails};
+ghost use Rattle.nn_bytes.specs.Runs.{is_printable, is_printable_byte, fails};
 
 use crate::{block_at, first_set};
 use std::simd::prelude::*;
@@ -30,10 +30,18 @@ pub fn printable_run(text: &[u8]) -> usize
     i
 }
 
+/// Whether all bytes are printable ASCII, and none is a backslash.
+#[inline(always)]
+pub fn is_printable(text: &[u8]) -> bool
+    ensures { result ≡ is_printable text.now }
+{
+    printable_run(text) == text.len()
+}
+
 /// The bytes of a printable run pass, and they are UTF-8.
 pub fn printable_is_utf8()
-    ensures run { (text : List ℕ) → list_all is_printable_byte (take (prefix_len is_printable_byte text) text) ≡ true }
-    ensures utf8 { (text : List ℕ) → list_all is_printable_byte text ≡ true → IsUtf8 text }
+    ensures run { (text : List ℕ) → is_printable (take (prefix_len is_printable_byte text) text) ≡ true }
+    ensures utf8 { (text : List ℕ) → is_printable text ≡ true → IsUtf8 text }
 {}
 
 // How many bytes of a block stand before the first that is not printable.

@@ -10,3 +10,5 @@ pub mod Quoted
 pub mod FirstToken
 pub mod TokensLeft
 pub mod BlockItems
+mod EightDigits
+mod DigitRuns

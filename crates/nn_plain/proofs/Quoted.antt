@@ -4,7 +4,8 @@ use Rattle.std.proofs.lemmas.Bool.{and_parts, or_parts, not-true, eqb-false, ltb
 use Rattle.std.specs.List.{prefix_len}
 use Rattle.std.specs.Str.{IsUtf8, IsCharBoundary}
 use Rattle.std.proofs.lemmas.Str.{IsCharBoundary-after_ascii}
-use Rattle.nn_plain.specs.Bytes.{is_printable_byte, is_printable, is_no_quote}
+use Rattle.nn_bytes.specs.Runs.{is_printable_byte, is_printable}
+use Rattle.nn_plain.specs.Bytes.{is_no_quote}
 use Rattle.nn_types.proofs.Lists.{between_places, byte_there}
 use Rattle.json.specs.Print.{escape, escape_byte}
 use Rattle.json.specs.Run.{is_plain}

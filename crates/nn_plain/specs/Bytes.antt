@@ -1,6 +1,5 @@
 -- What the reader of plain lines goes by.
-use Rattle.std.specs.Prelude.{◌≡◌, ◌⊎◌, ℕ, ◌+◌, ◌-◌, List, ◌∷◌, take, drop, get_or, codes, Bool, true, false, not, ◌&&◌, ◌==◌, nat_le, nat_lt}
-use Rattle.std.specs.List.{list_all}
+use Rattle.std.specs.Prelude.{◌≡◌, ◌⊎◌, ℕ, ◌+◌, ◌-◌, List, ◌∷◌, take, drop, get_or, codes, Bool, true, false, not, ◌==◌}
 use Rattle.std.specs.Str.Parse.{AllDigits, digits_value, digits_value_after}
 use Rattle.json.specs.Token.{Token}
 use Rattle.json.specs.Lex.{between, lex, fresh, after_value, begins_colon, punctuate}
@@ -35,14 +34,7 @@ pub record EndsValue (text : List ℕ) (end next : ℕ) : Type 0 where
 
 -- ---- texts
 
--- Printable ASCII, and no backslash.
-abbrev pub is_printable_byte : ℕ → Bool
-is_printable_byte b = nat_le 32 b && nat_lt b 127 && not (b == 92)
-
--- A text in quotes in it has no escape, and ends at the next quote.
-abbrev pub is_printable : List ℕ → Bool
-is_printable text = list_all is_printable_byte text
-
+-- A text in quotes in a printable line has no escape, and ends at the next one.
 abbrev pub is_no_quote : ℕ → Bool
 is_no_quote b = not (b == 34)
 

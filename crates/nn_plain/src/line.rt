@@ -5,9 +5,9 @@ ghost use Rattle.serde_json.specs.Read.{read};
 ghost use Rattle.nn_plain.specs.Ahead.{members_at};
 
 use crate::blocks::{plain_blocks, plain_scalar};
-use crate::text::is_printable;
 use crate::tokens::Tokens;
 use crate::value::Slots;
+use nn_bytes::is_printable;
 use std::alloc::Global;
 
 /// Whether the text is a plain line. Then the slots have its members.

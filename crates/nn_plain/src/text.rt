@@ -2,32 +2,13 @@
 ghost use Rattle.std.specs.Prelude.{◌≡◌, ◌+◌, ◌<◌, ◌≤◌, ◌∷◌, ◌++◌, length, drop, get_or, true, IfSome};
 ghost use Rattle.std.specs.List.{prefix_len};
 ghost use Rattle.json.specs.Print.{escape};
-ghost use Rattle.nn_plain.specs.Bytes.{is_printable_byte, is_printable, is_no_quote};
+ghost use Rattle.nn_bytes.specs.Runs.{is_printable};
+ghost use Rattle.nn_plain.specs.Bytes.{is_no_quote};
 
 use nn_bytes::run_before;
 
 /// How many bytes are looked at one by one before a search begins.
 const NEAR: usize = 8;
-
-/// Whether all bytes are printable ASCII, and none is a backslash.
-#[inline(always)]
-pub(crate) fn is_printable(text: &[u8]) -> bool
-    ensures { result ≡ is_printable text.now }
-{
-    let mut printable = true;
-    // A loop that looks at all bytes takes many at a time. One that ends early takes them one by one.
-    for b in text {
-        printable = printable & is_printable_byte(*b);
-    }
-    printable
-}
-
-#[inline(always)]
-fn is_printable_byte(b: u8) -> bool
-    ensures { result ≡ is_printable_byte b }
-{
-    (b >= b' ') & (b < 127) & (b != b'\\')
-}
 
 /// The text in quotes whose first quote stands at `from`, and where its last one ends.
 #[inline(always)]

@@ -5,7 +5,8 @@ ghost use Rattle.serde_json.specs.Read.{number_of};
 ghost use Rattle.json.specs.Json.{read_key};
 ghost use Rattle.json.specs.Token.{string, number, boolean, begin_object, begin_array, end_array};
 ghost use Rattle.json.specs.Lex.{tokens};
-ghost use Rattle.nn_plain.specs.Bytes.{AtStop, NextBegins, EndsValue, Skips, is_printable};
+ghost use Rattle.nn_plain.specs.Bytes.{AtStop, NextBegins, EndsValue, Skips};
+ghost use Rattle.nn_bytes.specs.Runs.{is_printable};
 
 use crate::number::number_at;
 use crate::text::quoted_at;
@@ -26,7 +27,8 @@ pub(crate) struct Tokens<'a> {
 impl<'a> Model for Tokens<'a> {
     ghost use Rattle.std.specs.Prelude.{◌≡◌, List, ◌≤◌, length, drop, true};
     ghost use Rattle.json.specs.Token.{Token, tokens_code};
-    ghost use Rattle.nn_plain.specs.Bytes.{tokens_left, is_printable};
+    ghost use Rattle.nn_bytes.specs.Runs.{is_printable};
+    ghost use Rattle.nn_plain.specs.Bytes.{tokens_left};
 
     ghost Value = { List Token };
 

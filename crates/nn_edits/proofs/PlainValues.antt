@@ -1,17 +1,18 @@
 -- The blocks of a plain line are those that a line's value has.
-use Rattle.std.proofs.Common.{◌≡◌, ℕ, ◌^◌, List, [], ◌∷◌, true, Option, Some, None, option_and_then, Ok, Err, codes, refl, sym, ap, lt-ltb}
+use Rattle.std.proofs.Common.{◌≡◌, ℕ, ◌^◌, List, [], ◌∷◌, true, Option, Some, None, option_and_then, Result, Ok, Err, codes, refl, sym, ap, ◌∙◌, lt-ltb}
 use Rattle.std.specs.Prelude.{is_some}
 use Rattle.std.specs.Option.{ok_or}
-use Rattle.serde_json.specs.Data.{Data, Items, no_items, item, array}
+use Rattle.serde_json.specs.Data.{Data, Items, null, boolean, number, string, array, object, unsigned, negative, float, no_items, item}
 use Rattle.serde_json.specs.Find.{get, as_object}
 use Rattle.nn_types.specs.Number.{IsNumber}
 use Rattle.nn_types.specs.Block.{IsBlock, AreBlocks}
 use Rattle.nn_types.specs.declared.block.Block.{Block}
-use Rattle.nn_plain.specs.Spelling.{spelled_or, Spells, SpellsBlock, SpellsBlocks, whole_of, whole_at}
+use Rattle.nn_plain.specs.Spelling.{spelled_or, plain_of, Spells, SpellsBlock, SpellsBlocks, whole_of, whole_at}
 use Rattle.nn_plain.specs.declared.value.Plain.{Plain}
 use Rattle.nn_plain.specs.declared.value.Plain.TheVariants.{Text, Whole, Truth}
 use Rattle.nn_edits.specs.Reading.{whole_in, number_in, block_in, items_in}
-use Rattle.nn_edits.specs.Parts.{blocks_of_value, scalar_from, scalar_of}
+use Rattle.nn_edits.specs.Parts.{blocks_of_value, number_of_value, text_of_value}
+use Rattle.nn_edits.specs.declared.fault.LineFault.{LineFault}
 use Rattle.nn_edits.specs.declared.fault.LineFault.TheVariants.{BadNumber, MissingField}
 
 whole_read : (key : List ℕ) (d : Data) (n : ℕ) → whole_at key d ≡ Some n → whole_in key d ≡ Ok n
@@ -42,13 +43,48 @@ items_read (item d ds) (b ∷ bs) so lawful = rw (block_read d b so.0 lawful.0, 
 pub blocks_read : (ds : Items) (bs : List Block) → SpellsBlocks ds bs → AreBlocks bs → blocks_of_value (array ds) ≡ Ok bs
 blocks_read ds bs so lawful = items_read ds bs so lawful
 
--- What a plain value is to a key.
-pub plain_member : (d : Data) (v : Plain) → Spells d v → scalar_from (spelled_or (Some v)) ≡ scalar_of d
-plain_member d (Text s) e = ap scalar_of (sym e)
-plain_member d (Whole n) e = ap scalar_of (sym e)
-plain_member d (Truth b) e = ap scalar_of (sym e)
+-- ---- what a plain value is to a key
 
--- No other plain value has blocks.
+pub spells_plain : (d : Data) (v : Plain) → Spells d v → spelled_or (Some v) ≡ plain_of d
+spells_plain d (Text s) e = ap plain_of (sym e)
+spells_plain d (Whole n) e = ap plain_of (sym e)
+spells_plain d (Truth b) e = ap plain_of (sym e)
+
+abbrev pub number_of_plain : Option Data → Result ℕ LineFault
+number_of_plain None = Err BadNumber
+number_of_plain (Some d) = number_of_value d
+
+pub number_by_plain : (d : Data) (o : Option Data) → o ≡ plain_of d → number_of_value d ≡ number_of_plain o
+number_by_plain d o e = at d ∙ ap number_of_plain (sym e)
+  where
+    at : (d : Data) → number_of_value d ≡ number_of_plain (plain_of d)
+    at null = refl
+    at (boolean b) = refl
+    at (number (unsigned n)) = refl
+    at (number (negative z)) = refl
+    at (number (float x)) = refl
+    at (string s) = refl
+    at (array ds) = refl
+    at (object ms) = refl
+
+abbrev pub text_of_plain : LineFault → Option Data → Result (List ℕ) LineFault
+text_of_plain fault None = Err fault
+text_of_plain fault (Some d) = text_of_value fault d
+
+pub text_by_plain : (fault : LineFault) (d : Data) (o : Option Data) → o ≡ plain_of d → text_of_value fault d ≡ text_of_plain fault o
+text_by_plain fault d o e = at d ∙ ap (text_of_plain fault) (sym e)
+  where
+    at : (d : Data) → text_of_value fault d ≡ text_of_plain fault (plain_of d)
+    at null = refl
+    at (boolean b) = refl
+    at (number (unsigned n)) = refl
+    at (number (negative z)) = refl
+    at (number (float x)) = refl
+    at (string s) = refl
+    at (array ds) = refl
+    at (object ms) = refl
+
+-- No plain value has blocks.
 pub no_blocks_read : (d : Data) (v : Plain) → Spells d v → blocks_of_value d ≡ Err MissingField
 no_blocks_read d (Text s) e = ap blocks_of_value e
 no_blocks_read d (Whole n) e = ap blocks_of_value e

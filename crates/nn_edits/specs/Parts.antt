@@ -1,24 +1,30 @@
 -- What the reader keeps of a line's object, and what it makes of that: the definitions of `Reading`, over the members that
 -- were kept and not over the whole object. No public contract cites these.
-use Rattle.std.specs.Prelude.{ℕ, ◌^◌, List, [], ◌∷◌, Bool, true, false, nat_lt, nat_le, ◌&&◌, if◌then◌else◌, Option, Some, None, Result, Ok, Err, codes}
+use Rattle.std.specs.Prelude.{ℕ, ◌^◌, List, [], ◌∷◌, Bool, true, false, get_or, nat_lt, nat_le, ◌&&◌, if◌then◌else◌, Option, Some, None, Result, Ok, Err, codes}
+use Rattle.std.specs.Borrow.{Bor}
 use Rattle.std.specs.Option.{ok_or}
-use Rattle.serde_json.specs.Data.{Num, unsigned, negative, float, Data, null, boolean, number, string, array, object}
-use Rattle.serde_json.specs.Find.{get, as_array}
+use Rattle.serde_json.specs.Data.{Data}
+use Rattle.serde_json.specs.Find.{as_array, as_str}
 use Rattle.nn_types.specs.Path.{path_of}
 use Rattle.nn_types.specs.declared.block.Block.{Block}
 use Rattle.nn_types.specs.declared.report.Kind.{Kind}
 use Rattle.nn_types.specs.declared.report.Report.{Report}
+use Rattle.nn_plain.specs.Spelling.{whole_of}
 use Rattle.nn_edits.specs.Outcome.{◌>>=◌}
-use Rattle.nn_edits.specs.Reading.{within, items_in, blocks_in, op_of, kind_of, object_in}
+use Rattle.nn_edits.specs.Reading.{field, within, whole_in, items_in, blocks_in, op_of, kind_of, object_in}
 use Rattle.nn_edits.specs.declared.fault.LineFault.{LineFault}
 use Rattle.nn_edits.specs.declared.fault.LineFault.TheVariants.{MissingField, BadNumber, UnknownOp, BadPath, UnknownKind}
 use Rattle.nn_edits.specs.declared.fields.Fields.{Fields}
-use Rattle.nn_edits.specs.declared.fields.Slot.{Slot}
-use Rattle.nn_edits.specs.declared.fields.Slot.TheVariants as slot
+use Rattle.nn_edits.specs.declared.fields.State.{State}
+use Rattle.nn_edits.specs.declared.fields.State.TheVariants.{Missing, Wanted, Other}
+use Rattle.nn_edits.specs.declared.keys.NumberKey.{NumberKey}
+use Rattle.nn_edits.specs.declared.keys.NumberKey.TheVariants as number
+use Rattle.nn_edits.specs.declared.keys.TextKey.{TextKey}
+use Rattle.nn_edits.specs.declared.keys.TextKey.TheVariants as text
+use Rattle.nn_edits.specs.declared.keys.Slot.{Slot}
+use Rattle.nn_edits.specs.declared.keys.Slot.TheVariants.{Number, Text, Blocks}
 use Rattle.nn_edits.specs.declared.line.Line.{Line}
 use Rattle.nn_edits.specs.declared.line.Line.TheVariants as either
-use Rattle.nn_edits.specs.declared.member.Member.{Member}
-use Rattle.nn_edits.specs.declared.member.Member.TheVariants.{Missing, Text, Whole, Other}
 use Rattle.nn_edits.specs.declared.reading.Op.{Op}
 use Rattle.nn_edits.specs.declared.reading.Op.TheVariants as op
 use Rattle.nn_types.specs.declared.edit.Edit.{Edit}
@@ -30,207 +36,213 @@ use Rattle.nn_types.specs.declared.profile.Profile.TheVariants.{One}
 use Rattle.nn_types.specs.Limits.{max_datanodes}
 use Rattle.nn_plain.specs.Keys.{first_named}
 
--- ---- one member
+-- ---- what is kept
 
--- What a member is to a key that wants a text or a whole number.
-pub data Scalar : Type 0 where
-  missing : Scalar
-  text : List ℕ → Scalar
-  whole : ℕ → Scalar
-  other : Scalar
+-- The member at each key of the formats, or why there is none.
+pub record Parts : Type 0 where
+  pub txid : Result ℕ LineFault
+  pub replication : Result ℕ LineFault
+  pub id : Result ℕ LineFault
+  pub stamp : Result ℕ LineFault
+  pub profile : Result ℕ LineFault
+  pub dn : Result ℕ LineFault
+  pub block : Result ℕ LineFault
+  pub len : Result ℕ LineFault
+  pub op : Result (List ℕ) LineFault
+  pub path : Result (List ℕ) LineFault
+  pub src : Result (List ℕ) LineFault
+  pub dst : Result (List ℕ) LineFault
+  pub kind : Result (List ℕ) LineFault
+  pub blocks : Result (List Block) LineFault
 
--- What the code keeps of a member.
-abbrev pub seen : Member → Scalar
-seen Missing = missing
-seen (Text s) = text s.now
-seen (Whole n) = whole n
-seen Other = other
+-- What a value is to a key that wants a number, a text or blocks.
+abbrev pub number_of_value : Data → Result ℕ LineFault
+number_of_value d = ok_or (whole_of d) BadNumber
 
--- A number counts as whole where it has no sign, no point and no exponent, and is below 2^64.
-abbrev pub scalar_of_num : Num → Scalar
-scalar_of_num (unsigned n) = whole n
-scalar_of_num (negative z) = other
-scalar_of_num (float x) = other
+abbrev pub text_of_value : LineFault → Data → Result (List ℕ) LineFault
+text_of_value fault d = ok_or (as_str d) fault
 
--- A value at such a key.
-abbrev pub scalar_of : Data → Scalar
-scalar_of null = other
-scalar_of (boolean b) = other
-scalar_of (number n) = scalar_of_num n
-scalar_of (string s) = text s
-scalar_of (array ds) = other
-scalar_of (object ms) = other
-
--- A plain value there, or any other one.
-abbrev pub scalar_from : Option Data → Scalar
-scalar_from None = other
-scalar_from (Some d) = scalar_of d
-
--- A value that may be missing.
-abbrev pub scalar_or : Option Data → Scalar
-scalar_or None = missing
-scalar_or (Some d) = scalar_of d
-
--- The member of a value at a key.
-abbrev pub scalar_at : List ℕ → Data → Scalar
-scalar_at key d = scalar_or (get key d)
-
--- Whether there is a member, whatever its value.
-abbrev pub is_there : Scalar → Bool
-is_there missing = false
-is_there (text s) = true
-is_there (whole n) = true
-is_there other = true
-
--- What each sort of key makes of its member, or the fault.
-unfoldable pub whole_from : Scalar → Result ℕ LineFault
-whole_from missing = Err MissingField
-whole_from (text s) = Err BadNumber
-whole_from (whole n) = Ok n
-whole_from other = Err BadNumber
-
-unfoldable pub number_from : Scalar → Result ℕ LineFault
-number_from s = whole_from s >>= λ n. within (nat_lt n (2 ^ 63)) n
-
-unfoldable pub txid_from : Scalar → Result ℕ LineFault
-txid_from s = whole_from s >>= λ n. within (nat_le 1 n && nat_lt n (2 ^ 63)) n
-
-unfoldable pub dn_from : Scalar → Result ℕ LineFault
-dn_from s = whole_from s >>= λ n. within (nat_le 1 n && nat_le n max_datanodes) n
-
-unfoldable pub path_from : Scalar → Result (List (List ℕ)) LineFault
-path_from missing = Err MissingField
-path_from (text s) = ok_or (path_of s) BadPath
-path_from (whole n) = Err BadPath
-path_from other = Err BadPath
-
-unfoldable pub profile_from : Scalar → Result Profile LineFault
-profile_from missing = Ok One
-profile_from (text s) = Err BadNumber
-profile_from (whole n) = ok_or (profile_of n) BadNumber
-profile_from other = Err BadNumber
-
-unfoldable pub op_from : Scalar → Result Op LineFault
-op_from missing = Err MissingField
-op_from (text s) = ok_or (op_of s) UnknownOp
-op_from (whole n) = Err UnknownOp
-op_from other = Err UnknownOp
-
-unfoldable pub kind_from : Scalar → Result Kind LineFault
-kind_from missing = Err MissingField
-kind_from (text s) = ok_or (kind_of s) UnknownKind
-kind_from (whole n) = Err UnknownKind
-kind_from other = Err UnknownKind
-
--- ---- all that is kept
-
--- The blocks of a value.
 abbrev pub blocks_of_value : Data → Result (List Block) LineFault
 blocks_of_value d = ok_or (as_array d) MissingField >>= items_in
 
--- The member at each key of the formats. The blocks at the key `blocks` are read already.
-pub record Parts : Type 0 where
-  pub op : Scalar
-  pub path : Scalar
-  pub txid : Scalar
-  pub id : Scalar
-  pub stamp : Scalar
-  pub len : Scalar
-  pub src : Scalar
-  pub dst : Scalar
-  pub replication : Scalar
-  pub dn : Scalar
-  pub block : Scalar
-  pub kind : Scalar
-  pub profile : Scalar
-  pub blocks : Result (List Block) LineFault
+-- The fault of a member that is no text.
+abbrev pub text_fault : TextKey → LineFault
+text_fault text.Op = UnknownOp
+text_fault text.Path = BadPath
+text_fault text.Src = BadPath
+text_fault text.Dst = BadPath
+text_fault text.Kind = UnknownKind
+
+-- The text at a key.
+abbrev pub text_in : LineFault → List ℕ → Data → Result (List ℕ) LineFault
+text_in fault key d = field key d >>= text_of_value fault
 
 -- The members of a value.
 abbrev pub parts_of : Data → Parts
 parts_of d = record {
-  op = scalar_at (codes "op") d;
-  path = scalar_at (codes "path") d;
-  txid = scalar_at (codes "txid") d;
-  id = scalar_at (codes "id") d;
-  stamp = scalar_at (codes "gen") d;
-  len = scalar_at (codes "len") d;
-  src = scalar_at (codes "src") d;
-  dst = scalar_at (codes "dst") d;
-  replication = scalar_at (codes "replication") d;
-  dn = scalar_at (codes "dn") d;
-  block = scalar_at (codes "block") d;
-  kind = scalar_at (codes "kind") d;
-  profile = scalar_at (codes "profile") d;
+  txid = whole_in (codes "txid") d;
+  replication = whole_in (codes "replication") d;
+  id = whole_in (codes "id") d;
+  stamp = whole_in (codes "gen") d;
+  profile = whole_in (codes "profile") d;
+  dn = whole_in (codes "dn") d;
+  block = whole_in (codes "block") d;
+  len = whole_in (codes "len") d;
+  op = text_in UnknownOp (codes "op") d;
+  path = text_in BadPath (codes "path") d;
+  src = text_in BadPath (codes "src") d;
+  dst = text_in BadPath (codes "dst") d;
+  kind = text_in UnknownKind (codes "kind") d;
   blocks = blocks_in d;
 }
 
--- What the code keeps of them.
-abbrev pub seen_fields : Fields → Parts
-seen_fields f = record {
-  op = seen f.op;
-  path = seen f.path;
-  txid = seen f.txid;
-  id = seen f.id;
-  stamp = seen f.stamp;
-  len = seen f.len;
-  src = seen f.src;
-  dst = seen f.dst;
-  replication = seen f.replication;
-  dn = seen f.dn;
-  block = seen f.block;
-  kind = seen f.kind;
-  profile = seen f.profile;
-  blocks = f.blocks;
+-- ---- as the code keeps it
+
+-- A member in its place, by the state of the place.
+abbrev pub in_place : {A : Type 0} → State → A → LineFault → Result A LineFault
+in_place Missing x fault = Err MissingField
+in_place Wanted x fault = Ok x
+in_place Other x fault = Err fault
+
+abbrev pub number_place : NumberKey → ℕ
+number_place number.Txid = 0
+number_place number.Replication = 1
+number_place number.Id = 2
+number_place number.Stamp = 3
+number_place number.Profile = 4
+number_place number.Dn = 5
+number_place number.Block = 6
+number_place number.Len = 7
+
+abbrev pub text_place : TextKey → ℕ
+text_place text.Op = 0
+text_place text.Path = 1
+text_place text.Src = 2
+text_place text.Dst = 3
+text_place text.Kind = 4
+
+abbrev pub number_seen : Fields → NumberKey → Result ℕ LineFault
+number_seen f key = in_place (get_or f.number_states (number_place key) Missing) (get_or f.numbers (number_place key) 0) BadNumber
+
+abbrev pub no_text : Bor (List ℕ)
+no_text = record { ref_ptr = (0, 0); now = [] }
+
+abbrev pub text_seen : Fields → TextKey → Result (List ℕ) LineFault
+text_seen f key = in_place (get_or f.text_states (text_place key) Missing) (get_or f.texts (text_place key) no_text).now (text_fault key)
+
+-- A text that was handed out, by its bytes.
+abbrev pub text_given : Result (Bor (List ℕ)) LineFault → Result (List ℕ) LineFault
+text_given (Ok s) = Ok s.now
+text_given (Err e) = Err e
+
+abbrev pub parts_by : (NumberKey → Result ℕ LineFault) → (TextKey → Result (List ℕ) LineFault) → Result (List Block) LineFault → Parts
+parts_by numbers texts blocks = record {
+  txid = numbers number.Txid;
+  replication = numbers number.Replication;
+  id = numbers number.Id;
+  stamp = numbers number.Stamp;
+  profile = numbers number.Profile;
+  dn = numbers number.Dn;
+  block = numbers number.Block;
+  len = numbers number.Len;
+  op = texts text.Op;
+  path = texts text.Path;
+  src = texts text.Src;
+  dst = texts text.Dst;
+  kind = texts text.Kind;
+  blocks = blocks;
 }
+
+abbrev pub seen_fields : Fields → Parts
+seen_fields f = parts_by (number_seen f) (text_seen f) f.blocks
 
 -- ---- keys
 
 -- The key of each slot.
 abbrev pub slot_text : Slot → List ℕ
-slot_text slot.Op = codes "op"
-slot_text slot.Path = codes "path"
-slot_text slot.Txid = codes "txid"
-slot_text slot.Id = codes "id"
-slot_text slot.Stamp = codes "gen"
-slot_text slot.Len = codes "len"
-slot_text slot.Src = codes "src"
-slot_text slot.Dst = codes "dst"
-slot_text slot.Replication = codes "replication"
-slot_text slot.Dn = codes "dn"
-slot_text slot.Block = codes "block"
-slot_text slot.Kind = codes "kind"
-slot_text slot.Profile = codes "profile"
+slot_text (Number number.Txid) = codes "txid"
+slot_text (Number number.Replication) = codes "replication"
+slot_text (Number number.Id) = codes "id"
+slot_text (Number number.Stamp) = codes "gen"
+slot_text (Number number.Profile) = codes "profile"
+slot_text (Number number.Dn) = codes "dn"
+slot_text (Number number.Block) = codes "block"
+slot_text (Number number.Len) = codes "len"
+slot_text (Text text.Op) = codes "op"
+slot_text (Text text.Path) = codes "path"
+slot_text (Text text.Src) = codes "src"
+slot_text (Text text.Dst) = codes "dst"
+slot_text (Text text.Kind) = codes "kind"
+slot_text Blocks = codes "blocks"
 
 abbrev pub all_slots : List Slot
-all_slots = slot.Op ∷ slot.Path ∷ slot.Txid ∷ slot.Id ∷ slot.Stamp ∷ slot.Len ∷ slot.Src ∷ slot.Dst ∷ slot.Replication ∷ slot.Dn ∷ slot.Block ∷ slot.Kind ∷ slot.Profile ∷ []
+all_slots =
+    Number number.Txid ∷ Number number.Replication ∷ Number number.Id ∷ Number number.Stamp ∷ Number number.Profile ∷ Number number.Dn ∷ Number number.Block ∷ Number number.Len
+    ∷ Text text.Op ∷ Text text.Path ∷ Text text.Src ∷ Text text.Dst ∷ Text text.Kind ∷ Blocks ∷ []
 
 -- The slot of a key, if a format has it.
 unfoldable pub slot_of : List ℕ → Option Slot
 slot_of key = first_named slot_text key all_slots
 
 -- Puts a member: of members with the same key the last one counts.
-abbrev pub put_slot : Slot → Scalar → Parts → Parts
-put_slot slot.Op s p = record p { op = s }
-put_slot slot.Path s p = record p { path = s }
-put_slot slot.Txid s p = record p { txid = s }
-put_slot slot.Id s p = record p { id = s }
-put_slot slot.Stamp s p = record p { stamp = s }
-put_slot slot.Len s p = record p { len = s }
-put_slot slot.Src s p = record p { src = s }
-put_slot slot.Dst s p = record p { dst = s }
-put_slot slot.Replication s p = record p { replication = s }
-put_slot slot.Dn s p = record p { dn = s }
-put_slot slot.Block s p = record p { block = s }
-put_slot slot.Kind s p = record p { kind = s }
-put_slot slot.Profile s p = record p { profile = s }
+abbrev pub put_number : NumberKey → Result ℕ LineFault → Parts → Parts
+put_number number.Txid n p = record p { txid = n }
+put_number number.Replication n p = record p { replication = n }
+put_number number.Id n p = record p { id = n }
+put_number number.Stamp n p = record p { stamp = n }
+put_number number.Profile n p = record p { profile = n }
+put_number number.Dn n p = record p { dn = n }
+put_number number.Block n p = record p { block = n }
+put_number number.Len n p = record p { len = n }
 
--- A member whose key no format has is dropped.
-abbrev pub put_if_slot : Option Slot → Scalar → Parts → Parts
-put_if_slot None s p = p
-put_if_slot (Some slot) s p = put_slot slot s p
+abbrev pub put_text : TextKey → Result (List ℕ) LineFault → Parts → Parts
+put_text text.Op s p = record p { op = s }
+put_text text.Path s p = record p { path = s }
+put_text text.Src s p = record p { src = s }
+put_text text.Dst s p = record p { dst = s }
+put_text text.Kind s p = record p { kind = s }
 
 abbrev pub put_blocks : Result (List Block) LineFault → Parts → Parts
 put_blocks bs p = record p { blocks = bs }
+
+abbrev pub put_slot : Slot → Data → Parts → Parts
+put_slot (Number key) d p = put_number key (number_of_value d) p
+put_slot (Text key) d p = put_text key (text_of_value (text_fault key) d) p
+put_slot Blocks d p = put_blocks (blocks_of_value d) p
+
+-- A member whose key no format has is dropped.
+abbrev pub put_if_slot : Option Slot → Data → Parts → Parts
+put_if_slot None d p = p
+put_if_slot (Some slot) d p = put_slot slot d p
+
+-- ---- what each key makes of its member
+
+-- Whether there is no member, whatever its value would have to be.
+abbrev pub is_missing : {A : Type 0} → Result A LineFault → Bool
+is_missing (Ok x) = false
+is_missing (Err MissingField) = true
+is_missing (Err e) = false
+
+unfoldable pub number_from : Result ℕ LineFault → Result ℕ LineFault
+number_from number = number >>= λ n. within (nat_lt n (2 ^ 63)) n
+
+unfoldable pub txid_from : Result ℕ LineFault → Result ℕ LineFault
+txid_from number = number >>= λ n. within (nat_le 1 n && nat_lt n (2 ^ 63)) n
+
+unfoldable pub dn_from : Result ℕ LineFault → Result ℕ LineFault
+dn_from number = number >>= λ n. within (nat_le 1 n && nat_le n max_datanodes) n
+
+unfoldable pub profile_from : Result ℕ LineFault → Result Profile LineFault
+profile_from number = if is_missing number then Ok One else (number >>= λ n. ok_or (profile_of n) BadNumber)
+
+unfoldable pub path_from : Result (List ℕ) LineFault → Result (List (List ℕ)) LineFault
+path_from text = text >>= λ s. ok_or (path_of s) BadPath
+
+unfoldable pub op_from : Result (List ℕ) LineFault → Result Op LineFault
+op_from text = text >>= λ s. ok_or (op_of s) UnknownOp
+
+unfoldable pub kind_from : Result (List ℕ) LineFault → Result Kind LineFault
+kind_from text = text >>= λ s. ok_or (kind_of s) UnknownKind
 
 -- ---- transactions and reports
 
@@ -301,14 +313,14 @@ report_from p = do
 
 -- With a member `op` it is a transaction, else a report.
 unfoldable pub either_from : Parts → Result Line LineFault
-either_from p = if is_there p.op then (do
-  tx ← tx_from p
-  Ok (either.Edit tx)) else (do
-    report ← report_from p
-    Ok (either.Report report))
+either_from p = if is_missing p.op then (do
+  report ← report_from p
+  Ok (either.Report report)) else (do
+    tx ← tx_from p
+    Ok (either.Edit tx))
 
 -- A block by its three members.
-unfoldable pub block_from : Scalar → Scalar → Scalar → Result Block LineFault
+unfoldable pub block_from : Result ℕ LineFault → Result ℕ LineFault → Result ℕ LineFault → Result Block LineFault
 block_from id stamp len = do
   id ← number_from id
   stamp ← number_from stamp

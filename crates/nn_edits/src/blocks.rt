@@ -3,14 +3,13 @@ ghost use Rattle.std.specs.Prelude.{◌≡◌, ◌<◌, length, codes, if◌then
 ghost use Rattle.std.specs.Str.{bytes_eq};
 ghost use Rattle.serde_json.specs.Data.{Data};
 ghost use Rattle.nn_plain.specs.Ahead.{data_at};
-ghost use Rattle.nn_edits.specs.Parts.{seen, blocks_of_value, block_from};
+ghost use Rattle.nn_edits.specs.Parts.{blocks_of_value, block_from};
 ghost use Rattle.nn_edits.specs.Reading.{block_in};
 
-use crate::ahead::read_member;
 use crate::fault::LineFault;
-use crate::member::{Member, block_id_in, length_in, stamp_in};
+use crate::member::{block_id_in, length_in, number_of, stamp_in};
 use json::Reader;
-use nn_plain::{ItemSink, MemberSink, ReadFault, read_array, read_object};
+use nn_plain::{ItemSink, MemberSink, ReadFault, read_array, read_object, read_value};
 use nn_types::{Block, Blocks};
 use std::alloc::Global;
 
@@ -79,9 +78,9 @@ fn read_block(
     ensures err { result ≡ Err ReadFault.Invalid → data_at depth reader.old ≡ None }
 {
     let mut numbers = Numbers {
-        id: Member::Missing,
-        stamp: Member::Missing,
-        len: Member::Missing,
+        id: Err(LineFault::MissingField),
+        stamp: Err(LineFault::MissingField),
+        len: Err(LineFault::MissingField),
     };
     if !read_object(alloc, reader, depth, &mut numbers)? {
         return Ok(Err(LineFault::MissingField));
@@ -89,41 +88,38 @@ fn read_block(
     Ok(block_of(numbers))
 }
 
-/// The members of a block.
+// The numbers of a block, or why there are none.
 #[derive(Clone, Copy, Drop)]
-pub(crate) struct Numbers<'a> {
-    pub(crate) id: Member<'a>,
-    pub(crate) stamp: Member<'a>,
-    pub(crate) len: Member<'a>,
+struct Numbers {
+    id: Result<u64, LineFault>,
+    stamp: Result<u64, LineFault>,
+    len: Result<u64, LineFault>,
 }
 
-impl<'a> Numbers<'a> {
+impl Numbers {
     #[inline(always)]
-    fn put(&mut self, key: &str, member: Member<'a>)
-        ensures id { seen self.new.id
-            ≡ (if bytes_eq key.now (codes "id") then seen member.entry else seen self.old.id) }
-        ensures stamp { seen self.new.stamp
-            ≡ (if bytes_eq key.now (codes "gen") then seen member.entry else seen self.old.stamp) }
-        ensures len { seen self.new.len
-            ≡ (if bytes_eq key.now (codes "len") then seen member.entry else seen self.old.len) }
+    fn put(&mut self, key: &str, number: Result<u64, LineFault>)
+        ensures id { self.new.id ≡ (if bytes_eq key.now (codes "id") then number else self.old.id) }
+        ensures stamp { self.new.stamp ≡ (if bytes_eq key.now (codes "gen") then number else self.old.stamp) }
+        ensures len { self.new.len ≡ (if bytes_eq key.now (codes "len") then number else self.old.len) }
     {
         match key {
-            "id" => self.id = member,
-            "gen" => self.stamp = member,
-            "len" => self.len = member,
+            "id" => self.id = number,
+            "gen" => self.stamp = number,
+            "len" => self.len = number,
             _ => {}
         }
     }
 }
 
-impl<'a> MemberSink<'a> for Numbers<'a> {
+impl<'a> MemberSink<'a> for Numbers {
     ghost use Rattle.std.specs.Prelude.{◌≡◌, codes};
     ghost use Rattle.serde_json.specs.Data.{object};
-    ghost use Rattle.nn_edits.specs.Parts.{seen, scalar_at};
+    ghost use Rattle.nn_edits.specs.Reading.{whole_in};
 
-    ghost seen = { λ s ms. (seen s.id ≡ scalar_at (codes "id") (object ms))
-        × (seen s.stamp ≡ scalar_at (codes "gen") (object ms))
-        × (seen s.len ≡ scalar_at (codes "len") (object ms)) };
+    ghost seen = { λ s ms. (s.id ≡ whole_in (codes "id") (object ms))
+        × (s.stamp ≡ whole_in (codes "gen") (object ms))
+        × (s.len ≡ whole_in (codes "len") (object ms)) };
 
     fn read(
         &mut self,
@@ -132,15 +128,15 @@ impl<'a> MemberSink<'a> for Numbers<'a> {
         reader: &mut Reader<'a>,
         depth: usize,
     ) -> Result<(), ReadFault> {
-        let member = read_member(reader, depth)?;
-        self.put(key, member);
+        let value = read_value(reader, depth)?;
+        self.put(key, number_of(value));
         Ok(())
     }
 }
 
 #[tactic(auto, unfolding(crate::specs::Parts::block_from))]
-fn block_of(numbers: Numbers<'_>) -> Result<Block, LineFault>
-    ensures { result ≡ block_from (seen numbers.entry.id) (seen numbers.entry.stamp) (seen numbers.entry.len) }
+fn block_of(numbers: Numbers) -> Result<Block, LineFault>
+    ensures { result ≡ block_from numbers.id numbers.stamp numbers.len }
 {
     let id = block_id_in(numbers.id)?;
     let stamp = stamp_in(numbers.stamp)?;

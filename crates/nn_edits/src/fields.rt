@@ -1,119 +1,95 @@
-//! The members of a line's object that the formats have, each in its place: filled in one pass over the tokens.
-ghost use Rattle.std.specs.Prelude.{◌≡◌, Err, codes};
-ghost use Rattle.std.specs.Str.{bytes_eq};
+//! The members of a line's object that the formats have, each in its place: filled in one pass over the line.
+ghost use Rattle.std.specs.Prelude.{◌≡◌};
 ghost use Rattle.serde_json.specs.Data.{Data, object, no_members};
-ghost use Rattle.nn_plain.specs.Spelling.{Spells};
-ghost use Rattle.nn_edits.specs.Parts.{seen, scalar_of, seen_fields, parts_of, slot_of, put_slot, put_if_slot, put_blocks};
-ghost use Rattle.nn_edits.specs.declared.fault.LineFault.TheVariants.{MissingField};
+ghost use Rattle.nn_plain.specs.Spelling.{plain_of, spelled_or};
+ghost use Rattle.nn_edits.specs.Parts.{number_seen, text_given, text_seen, seen_fields, parts_of, put_number, put_text, put_blocks, number_of_value, text_of_value, text_fault, is_missing};
 
-use crate::ahead::read_member;
 use crate::blocks::read_blocks;
 use crate::fault::LineFault;
-use crate::member::Member;
+use crate::keys::{NumberKey, Slot, TextKey, slot_of};
 use json::Reader;
-use nn_plain::{MemberSink, Plain, ReadFault, Slots};
+use nn_plain::{MemberSink, Plain, ReadFault, Slots, read_value};
 use nn_types::Blocks;
 use std::alloc::Global;
 use std::mem;
 
-/// The keys whose members are texts or whole numbers, by the names that the code has for them.
-#[derive(Clone, Copy)]
-pub(crate) enum Slot {
-    Op,
-    Path,
-    Txid,
-    Id,
-    Stamp,
-    Len,
-    Src,
-    Dst,
-    Replication,
-    Dn,
-    Block,
-    Kind,
-    Profile,
+/// What the line has at a key.
+#[derive(Clone, Copy, Drop)]
+pub(crate) enum State {
+    Missing,
+    /// A value of the sort that the key wants.
+    Wanted,
+    /// Any other value.
+    Other,
 }
 
 /// What an object has at each key. Of members with the same key the last one counts.
+///
+/// A number and a text stand only where the state of their place is `Wanted`.
 #[derive(Drop)]
 pub(crate) struct Fields<'a> {
-    pub(crate) op: Member<'a>,
-    pub(crate) path: Member<'a>,
-    pub(crate) txid: Member<'a>,
-    pub(crate) id: Member<'a>,
-    pub(crate) stamp: Member<'a>,
-    pub(crate) len: Member<'a>,
-    pub(crate) src: Member<'a>,
-    pub(crate) dst: Member<'a>,
-    pub(crate) replication: Member<'a>,
-    pub(crate) dn: Member<'a>,
-    pub(crate) block: Member<'a>,
-    pub(crate) kind: Member<'a>,
-    pub(crate) profile: Member<'a>,
-    pub(crate) blocks: Result<Blocks, LineFault>,
+    number_states: [State; 8],
+    text_states: [State; 5],
+    numbers: [u64; 8],
+    texts: [&'a str; 5],
+    blocks: Result<Blocks, LineFault>,
 }
 
 impl<'a> Fields<'a> {
     /// Those of an object with no members.
-    #[tactic(auto, unfolding(crate::specs::Reading::blocks_in))]
+    #[tactic(auto, unfolding(crate::specs::Reading::whole_in, crate::specs::Reading::blocks_in))]
     pub(crate) fn none() -> Fields<'a>
         ensures { seen_fields result ≡ parts_of (object no_members) }
     {
         Fields {
-            op: Member::Missing,
-            path: Member::Missing,
-            txid: Member::Missing,
-            id: Member::Missing,
-            stamp: Member::Missing,
-            len: Member::Missing,
-            src: Member::Missing,
-            dst: Member::Missing,
-            replication: Member::Missing,
-            dn: Member::Missing,
-            block: Member::Missing,
-            kind: Member::Missing,
-            profile: Member::Missing,
+            number_states: [State::Missing; 8],
+            text_states: [State::Missing; 5],
+            numbers: [0; 8],
+            texts: [""; 5],
             blocks: Err(LineFault::MissingField),
         }
     }
 
-    /// Takes a member, unless no format has its key.
+    /// The number at a key, or why there is none.
     #[inline(always)]
-    pub(crate) fn put_member(&mut self, key: &str, member: Member<'a>)
-        ensures { seen_fields self.new
-            ≡ put_if_slot (slot_of key.now) (seen member.entry) (seen_fields self.old) }
+    pub(crate) fn number(&self, key: NumberKey) -> Result<u64, LineFault>
+        ensures { result ≡ number_seen self.now key }
     {
-        if let Some(slot) = slot_of(key) {
-            self.set(slot, member);
+        let place = key as usize;
+        match self.number_states[place] {
+            State::Missing => Err(LineFault::MissingField),
+            State::Wanted => Ok(self.numbers[place]),
+            State::Other => Err(LineFault::BadNumber),
         }
     }
 
+    /// The text at a key, or why there is none.
     #[inline(always)]
-    fn set(&mut self, slot: Slot, member: Member<'a>)
-        ensures { seen_fields self.new ≡ put_slot slot (seen member.entry) (seen_fields self.old) }
+    pub(crate) fn text(&self, key: TextKey) -> Result<&'a str, LineFault>
+        ensures { text_given result ≡ text_seen self.now key }
     {
-        match slot {
-            Slot::Op => self.op = member,
-            Slot::Path => self.path = member,
-            Slot::Txid => self.txid = member,
-            Slot::Id => self.id = member,
-            Slot::Stamp => self.stamp = member,
-            Slot::Len => self.len = member,
-            Slot::Src => self.src = member,
-            Slot::Dst => self.dst = member,
-            Slot::Replication => self.replication = member,
-            Slot::Dn => self.dn = member,
-            Slot::Block => self.block = member,
-            Slot::Kind => self.kind = member,
-            Slot::Profile => self.profile = member,
+        let place = key as usize;
+        match self.text_states[place] {
+            State::Missing => Err(LineFault::MissingField),
+            State::Wanted => Ok(self.texts[place]),
+            State::Other => Err(text_fault(key)),
         }
     }
 
-    /// Takes the blocks, or why there are none.
-    pub(crate) fn put_blocks(&mut self, blocks: Result<Blocks, LineFault>)
-        ensures { seen_fields self.new ≡ put_blocks blocks (seen_fields self.old) }
+    /// Whether there is no member at a key.
+    #[inline(always)]
+    pub(crate) fn lacks_text(&self, key: TextKey) -> bool
+        ensures { result ≡ is_missing (text_seen self.now key) }
     {
-        self.blocks = blocks;
+        matches!(self.text_states[key as usize], State::Missing)
+    }
+
+    /// Whether there is no member at a key.
+    #[inline(always)]
+    pub(crate) fn lacks_number(&self, key: NumberKey) -> bool
+        ensures { result ≡ is_missing (number_seen self.now key) }
+    {
+        matches!(self.number_states[key as usize], State::Missing)
     }
 
     /// Takes the blocks out.
@@ -121,6 +97,41 @@ impl<'a> Fields<'a> {
         ensures { result ≡ self.old.blocks }
     {
         mem::replace(&mut self.blocks, Err(LineFault::MissingField))
+    }
+
+    #[inline(always)]
+    fn put_number(&mut self, key: NumberKey, value: Option<Plain<'a>>)
+        ensures { (d : Data) → spelled_or value.entry ≡ plain_of d
+            → seen_fields self.new ≡ put_number key (number_of_value d) (seen_fields self.old) }
+    {
+        let place = key as usize;
+        if let Some(Plain::Whole(n)) = value {
+            self.numbers[place] = n;
+            self.number_states[place] = State::Wanted;
+            return;
+        }
+        self.number_states[place] = State::Other;
+    }
+
+    #[inline(always)]
+    fn put_text(&mut self, key: TextKey, value: Option<Plain<'a>>)
+        ensures { (d : Data) → spelled_or value.entry ≡ plain_of d
+            → seen_fields self.new ≡ put_text key (text_of_value (text_fault key) d) (seen_fields self.old) }
+    {
+        let place = key as usize;
+        if let Some(Plain::Text(text)) = value {
+            self.texts[place] = text;
+            self.text_states[place] = State::Wanted;
+            return;
+        }
+        self.text_states[place] = State::Other;
+    }
+
+    // Takes the blocks, or why there are none.
+    fn put_blocks(&mut self, blocks: Result<Blocks, LineFault>)
+        ensures { seen_fields self.new ≡ put_blocks blocks (seen_fields self.old) }
+    {
+        self.blocks = blocks;
     }
 }
 
@@ -133,22 +144,28 @@ impl<'a> Slots<'a> for Fields<'a> {
 
     #[inline(always)]
     fn put(&mut self, key: &'a str, value: Plain<'a>) {
-        if let Some(slot) = slot_of(key) {
-            self.set(slot, Member::of(Some(value)));
+        let Some(slot) = slot_of(key) else {
             return;
-        }
-        if is_blocks(key) {
-            self.put_blocks(Err(LineFault::MissingField));
+        };
+        match slot {
+            Slot::Number(number) => self.put_number(number, Some(value)),
+            Slot::Text(text) => self.put_text(text, Some(value)),
+            Slot::Blocks => self.put_blocks(Err(LineFault::MissingField)),
         }
     }
 
     fn put_array(&mut self, key: &'a str, blocks: Blocks) {
-        if is_blocks(key) {
-            blocks.recall_invariant();
-            self.put_blocks(Ok(blocks));
+        let Some(slot) = slot_of(key) else {
             return;
+        };
+        match slot {
+            Slot::Number(number) => self.put_number(number, None),
+            Slot::Text(text) => self.put_text(text, None),
+            Slot::Blocks => {
+                blocks.recall_invariant();
+                self.put_blocks(Ok(blocks));
+            }
         }
-        self.put_member(key, Member::Other);
     }
 }
 
@@ -166,48 +183,35 @@ impl<'a> MemberSink<'a> for Fields<'a> {
         reader: &mut Reader<'a>,
         depth: usize,
     ) -> Result<(), ReadFault> {
-        if is_blocks(key) {
-            let blocks = read_blocks(alloc, reader, depth)?;
-            self.put_blocks(blocks);
+        let Some(slot) = slot_of(key) else {
+            let _dropped = read_value(reader, depth)?;
             return Ok(());
+        };
+        match slot {
+            Slot::Number(number) => {
+                let value = read_value(reader, depth)?;
+                self.put_number(number, value);
+            }
+            Slot::Text(text) => {
+                let value = read_value(reader, depth)?;
+                self.put_text(text, value);
+            }
+            Slot::Blocks => {
+                let blocks = read_blocks(alloc, reader, depth)?;
+                self.put_blocks(blocks);
+            }
         }
-        let member = read_member(reader, depth)?;
-        self.put_member(key, member);
         Ok(())
     }
 }
 
-// Whether the key is that of the blocks.
-#[inline(always)]
-fn is_blocks(key: &str) -> bool
-    ensures { result ≡ bytes_eq key.now (codes "blocks") }
+// The fault of a member that is no text.
+fn text_fault(key: TextKey) -> LineFault
+    ensures { result ≡ text_fault key }
 {
-    match key.as_bytes() {
-        b"blocks" => true,
-        _ => false,
-    }
-}
-
-// A match of bytes looks at their number first; one of texts compares with each key in turn.
-#[inline(always)]
-#[tactic(auto, unfolding(crate::specs::Parts::slot_of))]
-fn slot_of(key: &str) -> Option<Slot>
-    ensures { result ≡ slot_of key.now }
-{
-    match key.as_bytes() {
-        b"op" => Some(Slot::Op),
-        b"path" => Some(Slot::Path),
-        b"txid" => Some(Slot::Txid),
-        b"id" => Some(Slot::Id),
-        b"gen" => Some(Slot::Stamp),
-        b"len" => Some(Slot::Len),
-        b"src" => Some(Slot::Src),
-        b"dst" => Some(Slot::Dst),
-        b"replication" => Some(Slot::Replication),
-        b"dn" => Some(Slot::Dn),
-        b"block" => Some(Slot::Block),
-        b"kind" => Some(Slot::Kind),
-        b"profile" => Some(Slot::Profile),
-        _ => None,
+    match key {
+        TextKey::Op => LineFault::UnknownOp,
+        TextKey::Path | TextKey::Src | TextKey::Dst => LineFault::BadPath,
+        TextKey::Kind => LineFault::UnknownKind,
     }
 }

@@ -12,6 +12,7 @@ ghost use Rattle.nn_types.specs.declared.report.Report.{Report as ReportData};
 
 use crate::fault::LineFault;
 use crate::fields::Fields;
+use crate::keys::TextKey;
 use crate::reading::tx_in;
 use crate::report::report_in;
 use json::Scratch;
@@ -103,10 +104,10 @@ fn either_of_line(alloc: Global, scratch: &mut Scratch, line: &[u8]) -> Result<L
 fn either_in(alloc: Global, fields: &mut Fields<'_>) -> Result<Line, LineFault>
     ensures { LineGives result (either_from (seen_fields fields.old)) }
 {
-    if fields.op.is_there() {
-        return Ok(Line::Edit(tx_in(alloc, fields)?));
+    if fields.lacks_text(TextKey::Op) {
+        return Ok(Line::Report(report_in(fields)?));
     }
-    Ok(Line::Report(report_in(fields)?))
+    Ok(Line::Edit(tx_in(alloc, fields)?))
 }
 
 // What the object of a line has at the keys of the formats.

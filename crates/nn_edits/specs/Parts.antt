@@ -1,6 +1,6 @@
 -- What the reader keeps of a line's object, and what it makes of that: the definitions of `Reading`, over the members that
 -- were kept and not over the whole object. No public contract cites these.
-use Rattle.std.specs.Prelude.{ℕ, ◌^◌, List, [], ◌∷◌, Bool, true, false, get_or, nat_lt, nat_le, ◌&&◌, if◌then◌else◌, Option, Some, None, Result, Ok, Err, codes}
+use Rattle.std.specs.Prelude.{ℕ, ◌*◌, ◌/◌, ◌%◌, ◌^◌, List, [], ◌∷◌, Bool, true, false, get_or, nat_lt, nat_le, ◌&&◌, if◌then◌else◌, Option, Some, None, Result, Ok, Err, codes}
 use Rattle.std.specs.Borrow.{Bor}
 use Rattle.std.specs.Option.{ok_or}
 use Rattle.serde_json.specs.Data.{Data}
@@ -17,6 +17,8 @@ use Rattle.nn_edits.specs.declared.fault.LineFault.TheVariants.{MissingField, Ba
 use Rattle.nn_edits.specs.declared.fields.Fields.{Fields}
 use Rattle.nn_edits.specs.declared.fields.State.{State}
 use Rattle.nn_edits.specs.declared.fields.State.TheVariants.{Missing, Wanted, Other}
+use Rattle.nn_edits.specs.declared.keys.Entry.{Entry}
+use Rattle.nn_edits.specs.declared.keys.TheConstants.{FACTOR, SHORT_KEYS}
 use Rattle.nn_edits.specs.declared.keys.NumberKey.{NumberKey}
 use Rattle.nn_edits.specs.declared.keys.NumberKey.TheVariants as number
 use Rattle.nn_edits.specs.declared.keys.TextKey.{TextKey}
@@ -183,6 +185,16 @@ all_slots =
 -- The slot of a key, if a format has it.
 unfoldable pub slot_of : List ℕ → Option Slot
 slot_of key = first_named slot_text key all_slots
+
+-- Where the table of the short keys has the entry of a key's word.
+abbrev pub place_of : ℕ → ℕ
+place_of word = word * FACTOR % 2 ^ 64 / 2 ^ 60
+
+abbrev pub no_entry : Entry
+no_entry = record { word = 0; len = 0; slot = Blocks }
+
+abbrev pub entry_at : ℕ → Entry
+entry_at place = get_or SHORT_KEYS place no_entry
 
 -- Puts a member: of members with the same key the last one counts.
 abbrev pub put_number : NumberKey → Result ℕ LineFault → Parts → Parts

@@ -6,7 +6,7 @@ ghost use Rattle.nn_edits.specs.Parts.{number_seen, text_given, text_seen, seen_
 
 use crate::blocks::read_blocks;
 use crate::fault::LineFault;
-use crate::keys::{NumberKey, Slot, TextKey, slot_of};
+use crate::keys::{NumberKey, Slot, TextKey, slot_by_word, slot_of};
 use json::Reader;
 use nn_plain::{MemberSink, Plain, ReadFault, Slots, read_value};
 use nn_types::Blocks;
@@ -138,13 +138,22 @@ impl<'a> Fields<'a> {
 impl<'a> Slots<'a> for Fields<'a> {
     ghost use Rattle.std.specs.Prelude.{◌≡◌};
     ghost use Rattle.serde_json.specs.Data.{object};
-    ghost use Rattle.nn_edits.specs.Parts.{seen_fields, parts_of};
+    ghost use Rattle.nn_edits.specs.Parts.{seen_fields, parts_of, slot_of};
+
+    type Slot = Option<Slot>;
 
     ghost seen = { λ f ms. seen_fields f ≡ parts_of (object ms) };
 
+    ghost names = { λ slot key. slot ≡ slot_of key };
+
     #[inline(always)]
-    fn put(&mut self, key: &'a str, value: Plain<'a>) {
-        let Some(slot) = slot_of(key) else {
+    fn slot(key: &'a str, word: u64) -> Option<Slot> {
+        slot_by_word(key, word)
+    }
+
+    #[inline(always)]
+    fn put(&mut self, slot: Option<Slot>, value: Plain<'a>) {
+        let Some(slot) = slot else {
             return;
         };
         match slot {
@@ -154,8 +163,8 @@ impl<'a> Slots<'a> for Fields<'a> {
         }
     }
 
-    fn put_array(&mut self, key: &'a str, blocks: Blocks) {
-        let Some(slot) = slot_of(key) else {
+    fn put_array(&mut self, slot: Option<Slot>, blocks: Blocks) {
+        let Some(slot) = slot else {
             return;
         };
         match slot {

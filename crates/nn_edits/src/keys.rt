@@ -1,6 +1,9 @@
 //! The keys that the formats have, by the names that the code has for them.
-ghost use Rattle.std.specs.Prelude.{◌≡◌};
-ghost use Rattle.nn_edits.specs.Parts.{slot_of};
+ghost use Rattle.std.specs.Prelude.{◌≡◌, ◌⊎◌, ◌≤◌, ◌<◌, ℕ, List, length};
+ghost use Rattle.nn_plain.specs.Words.{Begins};
+ghost use Rattle.nn_edits.specs.Parts.{entry_at, place_of, slot_of};
+
+use nn_plain::{high_word, word_of};
 
 /// The keys that want a whole number.
 #[derive(Clone, Copy)]
@@ -35,25 +38,158 @@ pub(crate) enum Slot {
 
 /// The slot of a key, if a format has it.
 #[inline(always)]
-#[tactic(auto, unfolding(crate::specs::Parts::slot_of))]
 pub(crate) fn slot_of(key: &str) -> Option<Slot>
     ensures { result ≡ slot_of key.now }
 {
-    match key {
-        "txid" => Some(Slot::Number(NumberKey::Txid)),
-        "replication" => Some(Slot::Number(NumberKey::Replication)),
-        "id" => Some(Slot::Number(NumberKey::Id)),
-        "gen" => Some(Slot::Number(NumberKey::Stamp)),
-        "profile" => Some(Slot::Number(NumberKey::Profile)),
-        "dn" => Some(Slot::Number(NumberKey::Dn)),
-        "block" => Some(Slot::Number(NumberKey::Block)),
-        "len" => Some(Slot::Number(NumberKey::Len)),
-        "op" => Some(Slot::Text(TextKey::Op)),
-        "path" => Some(Slot::Text(TextKey::Path)),
-        "src" => Some(Slot::Text(TextKey::Src)),
-        "dst" => Some(Slot::Text(TextKey::Dst)),
-        "kind" => Some(Slot::Text(TextKey::Kind)),
-        "blocks" => Some(Slot::Blocks),
-        _ => None,
-    }
+    slot_by_word(key, word_of(key.as_bytes()))
 }
+
+/// The slot of a key that a word begins with, if a format has it. The word of a longer key than eight bytes is not looked at.
+#[inline(always)]
+pub(crate) fn slot_by_word(key: &str, word: u64) -> Option<Slot>
+    requires { length key.now ≤ 8 → Begins word key.now }
+    ensures { result ≡ slot_of key.now }
+{
+    let len = key.len();
+    if len == 0 || len > 8 {
+        return long_slot(key);
+    }
+    short_slot(word, len)
+}
+
+// The slot of a key by a word that it begins: one entry is looked at.
+#[inline(always)]
+fn short_slot(word: u64, len: usize) -> Option<Slot>
+    requires { (1 ≤ len) × (len ≤ 8) }
+    ensures { (key : List ℕ) → length key ≡ len → Begins word key → result ≡ slot_of key }
+{
+    let word = high_word(word, len);
+    let entry = entry_at(place_of(word));
+    if entry.word != word {
+        return None;
+    }
+    if entry.len as usize != len {
+        return None;
+    }
+    Some(entry.slot)
+}
+
+#[inline(always)]
+fn entry_at(place: usize) -> &'static Entry
+    requires { place < 16 }
+    ensures { result.now ≡ entry_at place }
+{
+    &SHORT_KEYS[place]
+}
+
+// The product of a key's word and FACTOR tells by its four high bits where the key's entry stands: no two keys have the same.
+#[inline(always)]
+fn place_of(word: u64) -> usize
+    ensures value { result ≡ place_of word }
+    ensures bound { result < 16 }
+{
+    (word.wrapping_mul(FACTOR) >> 60) as usize
+}
+
+// The slot of a key that has no entry.
+fn long_slot(key: &str) -> Option<Slot>
+    requires { (length key.now ≡ 0) ⊎ (8 < length key.now) }
+    ensures { result ≡ slot_of key.now }
+{
+    if key == "replication" {
+        return Some(Slot::Number(NumberKey::Replication));
+    }
+    None
+}
+
+// A key as the high bytes of a word. The entries that no key has are of no length.
+struct Entry {
+    word: u64,
+    len: u8,
+    slot: Slot,
+}
+
+const FACTOR: u64 = 0x9a84_a999_0d95_9b25;
+
+static SHORT_KEYS: [Entry; 16] = [
+    Entry {
+        word: 0,
+        len: 0,
+        slot: Slot::Blocks,
+    },
+    Entry {
+        word: 0x6469_0000_0000_0000,
+        len: 2,
+        slot: Slot::Number(NumberKey::Id),
+    },
+    Entry {
+        word: 0x646e_696b_0000_0000,
+        len: 4,
+        slot: Slot::Text(TextKey::Kind),
+    },
+    Entry {
+        word: 0x6e65_6c00_0000_0000,
+        len: 3,
+        slot: Slot::Number(NumberKey::Len),
+    },
+    Entry {
+        word: 0x6e65_6700_0000_0000,
+        len: 3,
+        slot: Slot::Number(NumberKey::Stamp),
+    },
+    Entry {
+        word: 0x6469_7874_0000_0000,
+        len: 4,
+        slot: Slot::Number(NumberKey::Txid),
+    },
+    Entry {
+        word: 0,
+        len: 0,
+        slot: Slot::Blocks,
+    },
+    Entry {
+        word: 0x706f_0000_0000_0000,
+        len: 2,
+        slot: Slot::Text(TextKey::Op),
+    },
+    Entry {
+        word: 0x6e64_0000_0000_0000,
+        len: 2,
+        slot: Slot::Number(NumberKey::Dn),
+    },
+    Entry {
+        word: 0x6372_7300_0000_0000,
+        len: 3,
+        slot: Slot::Text(TextKey::Src),
+    },
+    Entry {
+        word: 0x6b63_6f6c_6200_0000,
+        len: 5,
+        slot: Slot::Number(NumberKey::Block),
+    },
+    Entry {
+        word: 0x736b_636f_6c62_0000,
+        len: 6,
+        slot: Slot::Blocks,
+    },
+    Entry {
+        word: 0x656c_6966_6f72_7000,
+        len: 7,
+        slot: Slot::Number(NumberKey::Profile),
+    },
+    Entry {
+        word: 0,
+        len: 0,
+        slot: Slot::Blocks,
+    },
+    Entry {
+        word: 0x7473_6400_0000_0000,
+        len: 3,
+        slot: Slot::Text(TextKey::Dst),
+    },
+    Entry {
+        word: 0x6874_6170_0000_0000,
+        len: 4,
+        slot: Slot::Text(TextKey::Path),
+    },
+];

@@ -134,21 +134,30 @@ impl<'a> RowMembers<'a> {
 impl<'a> Slots<'a> for RowMembers<'a> {
     ghost use Rattle.std.specs.Prelude.{◌≡◌};
     ghost use Rattle.serde_json.specs.Data.{object};
-    ghost use Rattle.nn_image.specs.RowParts.{parts_of, seen_parts};
+    ghost use Rattle.nn_image.specs.RowParts.{parts_of, row_key, seen_parts};
+
+    type Slot = Option<RowKey>;
 
     ghost seen = { λ r ms. seen_parts r ≡ parts_of (object ms) };
 
+    ghost names = { λ slot key. slot ≡ row_key key };
+
     #[inline(always)]
-    fn put(&mut self, key: &'a str, value: Plain<'a>) {
-        match row_key(key) {
+    fn slot(key: &'a str, _word: u64) -> Option<RowKey> {
+        row_key(key)
+    }
+
+    #[inline(always)]
+    fn put(&mut self, slot: Option<RowKey>, value: Plain<'a>) {
+        match slot {
             Some(RowKey::Blocks) => self.blocks = None,
             Some(key) => self.set(key, Some(value)),
             None => {}
         }
     }
 
-    fn put_array(&mut self, key: &'a str, blocks: Blocks) {
-        match row_key(key) {
+    fn put_array(&mut self, slot: Option<RowKey>, blocks: Blocks) {
+        match slot {
             Some(RowKey::Blocks) => {
                 blocks.recall_invariant();
                 self.blocks = Some(blocks);

@@ -7,7 +7,7 @@ use Rattle.std.proofs.lemmas.Nat.{and_block, and_mask, mod_low, pow-add}
 use Rattle.std.proofs.lemmas.List.{length-append, length-map, length-replicate, length-take-le}
 use Rattle.std.proofs.Math.Nat.{pow-succ', one-le-pow, mul-lt-mul_of_pos_left}
 use lib.Bits.{bit_and}
-use lib.Lanes.{number_l}
+use lib.Lanes.{number_l, Each1}
 use Rattle.nn_plain.specs.Words.{value_of_pairs}
 
 -- ---- a word of digits
@@ -112,8 +112,7 @@ zeros_small (suc k) zs h = (omega arith, zeros_small k zs h)
 -- ---- shifts of a word
 
 abbrev All256 : List ℕ → Type 0
-All256 [] = Unit {0}
-All256 (z ∷ zs) = (z < 256) × All256 zs
+All256 zs = Each1 (λ z. z < 256) zs
 
 digits_256 : (cs : List ℕ) → AllDigits 10 cs → All256 cs
 digits_256 [] h = tt
@@ -166,6 +165,16 @@ moved_up j m bs all long small =
     spread : (lo hi p q : ℕ) → (lo + q * hi) * p ≡ hi * (p * q) + p * lo
     spread lo hi p q = grind arith
 
+-- The first bytes of a word, where nothing stands behind them.
+pub first_bytes_up : (word m : ℕ) (bs : List ℕ) → m ≤ 8 → word ≡ number_l 256 bs → length bs ≡ 8 → All256 (take m bs)
+    → (word * 2 ^ (64 - 8 * m)) % 2 ^ 64 ≡ number_l 256 (replicate (8 - m) 0 ++ take m bs)
+first_bytes_up word m bs most is long small =
+    let j = 8 - m in
+    let all : j + m ≡ 8 = omega (arith, most) in
+    let e : 64 - 8 * m ≡ 8 * j = omega (arith, most) in
+    let l : length (take m bs) ≡ m = length-take-le m bs (omega (arith, long, most)) in
+    ap₂ (λ w k. (w * 2 ^ k) % 2 ^ 64) is e ∙ ap (λ p. (number_l 256 bs * p) % 2 ^ 64) (eight_bits j) ∙ moved_up j m bs all l small
+
 -- ---- a mask over the bytes of a word
 
 and_byte : (x n r : ℕ) → x < 256 → bit_and (x + 256 * n) (15 + 256 * r) ≡ x % 16 + 256 * bit_and n r
@@ -196,10 +205,8 @@ word_writes word m bs one most is long digits =
     let j = 8 - m in
     let cs = take m bs in
     let all : j + m ≡ 8 = omega (arith, most) in
-    let e : 64 - 8 * m ≡ 8 * j = omega (arith, most) in
     let l : length cs ≡ m = length-take-le m bs (omega (arith, long, most)) in
-    let up : (word * 2 ^ (64 - 8 * m)) % 2 ^ 64 ≡ number_l 256 (replicate j 0 ++ cs) =
-    ap₂ (λ w k. (w * 2 ^ k) % 2 ^ 64) is e ∙ ap (λ p. (number_l 256 bs * p) % 2 ^ 64) (eight_bits j) ∙ moved_up j m bs all l (digits_256 cs digits) in
+    let up = first_bytes_up word m bs most is long (digits_256 cs digits) in
     let ys = replicate j 0 ++ cs in
     let eight : length ys ≡ 8 = omega (arith, zeros_long j cs, l, all) in
     let masked : bit_and (number_l 256 ys) 1085102592571150095 ≡ number_l 256 (map low ys) =

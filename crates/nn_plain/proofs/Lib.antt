@@ -10,5 +10,6 @@ pub mod Quoted
 pub mod FirstToken
 pub mod TokensLeft
 pub mod BlockItems
-mod EightDigits
+pub mod EightDigits
 mod DigitRuns
+pub mod KeyWords

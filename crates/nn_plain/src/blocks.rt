@@ -104,7 +104,7 @@ fn plain_numbers(tokens: &mut Tokens<'_>) -> Option<Block>
         let Some(value) = plain_scalar(tokens) else {
             return None;
         };
-        numbers.put(key, value.number());
+        numbers.put(key.text, value.number());
     }
 }
 

@@ -30,9 +30,9 @@ pub(crate) fn digits_in_block(block: u8x16) -> (usize, u64)
     (count, front * power(count - 8) + back)
 }
 
-// The words come out of the block, so that no byte is loaded twice.
+/// The first eight bytes of a block. The words come out of the block, so that no byte is loaded twice.
 #[inline(always)]
-fn first_word(block: u8x16) -> u64
+pub(crate) fn first_word(block: u8x16) -> u64
     requires { Each1 (λ x. x < 256) block }
     ensures { result ≡ number_l 256 (take 8 block) }
 {

@@ -20,8 +20,10 @@ mod text;
 mod tokens;
 mod truth;
 mod value;
+mod word;
 
 pub use any::read_value;
 pub use line::read_plain;
 pub use object::{ItemSink, MemberSink, ReadFault, read_array, read_line, read_object};
 pub use value::{Plain, Slots};
+pub use word::{high_word, word_of};

@@ -44,16 +44,17 @@ fn plain_members<'a, S: Slots<'a>>(alloc: Global, tokens: &mut Tokens<'a>, slots
         let Some(key) = key else {
             return true;
         };
+        let slot = S::slot(key.text, key.word);
         if tokens.next_byte() == b'[' {
             let Some(blocks) = plain_blocks(alloc, tokens) else {
                 return false;
             };
-            slots.put_array(key, blocks);
+            slots.put_array(slot, blocks);
         } else {
             let Some(value) = plain_scalar(tokens) else {
                 return false;
             };
-            slots.put(key, value);
+            slots.put(slot, value);
         }
     }
 }

@@ -7,10 +7,12 @@ ghost use Rattle.json.specs.Token.{string, number, boolean, begin_object, begin_
 ghost use Rattle.json.specs.Lex.{tokens};
 ghost use Rattle.nn_plain.specs.Bytes.{AtStop, NextBegins, EndsValue, Skips};
 ghost use Rattle.nn_bytes.specs.Runs.{is_printable};
+ghost use Rattle.nn_plain.specs.Words.{Begins};
 
 use crate::number::number_at;
 use crate::text::quoted_at;
 use crate::truth::truth_at;
+use crate::word::word_at;
 use std::marker::Model;
 
 /// The rest of a line. A contract sees the tokens that are still to come.
@@ -22,6 +24,13 @@ pub(crate) struct Tokens<'a> {
     at: usize,
     // Whether a key or a value comes next. If not, a value has just ended.
     fresh: bool,
+}
+
+/// A key, and a word that it begins, if it has no more than eight bytes.
+#[derive(Clone, Copy, Drop)]
+pub(crate) struct Key<'a> {
+    pub(crate) text: &'a str,
+    pub(crate) word: u64,
 }
 
 impl<'a> Model for Tokens<'a> {
@@ -58,8 +67,9 @@ impl<'a> Tokens<'a> {
 
     /// The next key, and in it None at the brace that closes the object.
     #[inline(always)]
-    pub(crate) fn next_key(&mut self) -> Option<Option<&'a str>>
-        ensures { IfSome result (λ k. read_key self.old ≡ Some (option_map (λ s. s.now) k, self.new)) }
+    pub(crate) fn next_key(&mut self) -> Option<Option<Key<'a>>>
+        ensures read { IfSome result (λ k. read_key self.old ≡ Some (option_map (λ s. s.text.now) k, self.new)) }
+        ensures word { IfSome result (λ k. IfSome k (λ s. length s.text.now ≤ 8 → Begins s.word s.text.now)) }
     {
         let text = self.text;
         let at = self.at;
@@ -74,9 +84,10 @@ impl<'a> Tokens<'a> {
         if byte_at(text, colon) != b':' {
             return None;
         }
+        let word = word_at(text.as_bytes(), start + 1, key);
         self.at = after_blanks(text, colon + 1);
         self.fresh = true;
-        Some(Some(key))
+        Some(Some(Key { text: key, word }))
     }
 
     /// The byte that comes next, and 0 at the end.

@@ -1,7 +1,8 @@
 //! The values of a plain line, and what takes them.
-ghost use Rattle.std.specs.Prelude.{◌≡◌};
+ghost use Rattle.std.specs.Prelude.{◌≡◌, ◌≤◌, ℕ, List, length};
 ghost use Rattle.serde_json.specs.Data.{Data, Items, Members, array, put};
 ghost use Rattle.nn_plain.specs.Spelling.{Spells, SpellsBlocks, whole_of};
+ghost use Rattle.nn_plain.specs.Words.{Begins};
 
 use nn_types::Blocks;
 
@@ -31,14 +32,26 @@ impl<'a> Plain<'a> {
 ///
 /// Of members with the same key the last one counts, whichever of the two calls it came by.
 pub trait Slots<'a> {
+    /// Where a member goes.
+    type Slot: Copy;
+
     /// `seen s ms`: the slots s have what they keep of the members ms.
     ghost seen: { Self → Members → Type 0 };
 
+    /// `names slot key`: the members of the key go to the slot.
+    ghost names: { Self.Slot → List ℕ → Type 0 };
+
+    /// The slot of a key. `word` begins with it, if it has no more than eight bytes.
+    fn slot(key: &'a str, word: u64) -> Self::Slot
+        requires { length key.now ≤ 8 → Begins word key.now }
+        ensures { names result key.now };
+
     /// Takes a member that is no array.
-    fn put(&mut self, key: &'a str, value: Plain<'a>)
-        ensures { (ms : Members) (d : Data) → Spells d value.entry → seen self.old ms → seen self.new (put key.now d ms) };
+    fn put(&mut self, slot: Self::Slot, value: Plain<'a>)
+        ensures { (key : List ℕ) (ms : Members) (d : Data) → names slot key → Spells d value.entry → seen self.old ms → seen self.new (put key d ms) };
 
     /// Takes an array of objects that have a block's numbers each.
-    fn put_array(&mut self, key: &'a str, blocks: Blocks)
-        ensures { (ms : Members) (ds : Items) → SpellsBlocks ds blocks → seen self.old ms → seen self.new (put key.now (array ds) ms) };
+    fn put_array(&mut self, slot: Self::Slot, blocks: Blocks)
+        ensures { (key : List ℕ) (ms : Members) (ds : Items) → names slot key → SpellsBlocks ds blocks
+            → seen self.old ms → seen self.new (put key (array ds) ms) };
 }

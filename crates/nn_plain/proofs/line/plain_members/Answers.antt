@@ -18,7 +18,7 @@ members-preserved g c =
     let rest = c.members.invariant in
     let n = rest.0 in
     let found = rest.1 in
-    let k = c.in-Some-key.key.now in
+    let k = c.in-Some-key.key.text.now in
     let s = c.next_key.new.self in
     let named : read_key c.members.tokens ≡ Some (Some k, s) = grind arith in
     let done = c.in-Some-plain_scalar.ensures in
@@ -28,7 +28,7 @@ members-preserved g c =
       put k d found,
       omega (arith, rest.2, less, done.3),
       rest.3 ∙ member_read (value 126) found n k c.members.tokens s c.plain_scalar.new.tokens d (omega (arith, rest.2, less)) named (done.1 126),
-      c.put.ensures found d done.2 rest.4,
+      c.put.ensures k found d c.slot-slot.ensures done.2 rest.4,
     )
 
 pub members-preserved-then-next_byte-eq91 : goal.members-preserved-then-next_byte-eq91
@@ -36,7 +36,7 @@ members-preserved-then-next_byte-eq91 g c =
     let rest = c.members.invariant in
     let n = rest.0 in
     let found = rest.1 in
-    let k = c.in-Some-key.key.now in
+    let k = c.in-Some-key.key.text.now in
     let s = c.next_key.new.self in
     let named : read_key c.members.tokens ≡ Some (Some k, s) = grind arith in
     let done = c.in-Some-plain_blocks.ensures in
@@ -46,5 +46,5 @@ members-preserved-then-next_byte-eq91 g c =
       put k (array ds) found,
       omega (arith, rest.2, less, done.shorter),
       rest.3 ∙ member_read (value 126) found n k c.members.tokens s c.plain_blocks.new.tokens (array ds) (omega (arith, rest.2, less)) named done.ok.1,
-      c.put_array.ensures found ds done.ok.2 rest.4,
+      c.put_array.ensures k found ds c.slot-slot.ensures done.ok.2 rest.4,
     )

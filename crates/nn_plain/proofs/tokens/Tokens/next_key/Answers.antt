@@ -1,16 +1,22 @@
 use Rattle.std.proofs.Common.{sym, ap, ◌∙◌}
 use Rattle.json.specs.Json.{read_key}
+use Rattle.nn_plain.proofs.KeyWords.{behind_quote}
 use Rattle.nn_plain.proofs.TokensLeft.{close_left, key_left}
 use Rattle.nn_plain.proofs.tokens.Tokens.next_key.Goals as goal
 
-pub returns-then-byte_at-eq125 : goal.returns-then-byte_at-eq125
-returns-then-byte_at-eq125 c =
+pub word_at-word-requires-clause-here : goal.word_at-word-requires-clause-here
+word_at-word-requires-clause-here c =
+    let found = c.in_ok-key in
+    rw (c.as_bytes.ensures.value) (behind_quote c.self.inside.text.now found.key.now _ c.in_ok-start.start found.ensures.here)
+
+pub returns-then-byte_at-eq125-clause-read : goal.returns-then-byte_at-eq125-clause-read
+returns-then-byte_at-eq125-clause-read c =
     let a = c.self.inside in
     let there = sym c.byte_at.ensures.value ∙ c.if-byte_at-eq125.true in
     ap read_key (sym c.self.view_is ∙ close_left a.fresh a.text.now a.at c.after_blanks-self-inside.result there c.after_blanks-self-inside.ensures.skips)
 
-pub returns : goal.returns
-returns c =
+pub returns-clause-read : goal.returns-clause-read
+returns-clause-read c =
     let a = c.self.inside in
     let start = c.in_ok-start in
     let found = c.in_ok-key in

@@ -10,7 +10,8 @@ use std::simd::prelude::*;
 
 /// How many bytes stand before the first that is not printable ASCII or is a backslash, or in all where there is none.
 ///
-/// A line feed is such a byte. The last 15 bytes of the text are looked at one by one.
+/// A line feed is such a byte. The last block overlaps with the one before it; only a text of less than 16 bytes is looked at
+/// byte by byte.
 #[inline(always)]
 pub fn printable_run(text: &[u8]) -> usize
     ensures run { result ≡ prefix_len is_printable_byte text.now }
@@ -23,6 +24,10 @@ pub fn printable_run(text: &[u8]) -> usize
             return i + run;
         }
         i += 16;
+    }
+    if text.len() >= 16 {
+        let last = text.len() - 16;
+        return last + printable_in_block(block_at(text, last));
     }
     'rest: while i < text.len() && is_printable_byte(text[i]) {
         i += 1;

@@ -27,7 +27,7 @@ ascii_byte x e =
     let below = and_parts (nat_le 32 x) _ small.0 in
     omega (arith, ltb-true x 127 below.1)
 
-all_ascii : (xs : List ℕ) → is_printable xs ≡ true → (i : ℕ) → get_or xs i 0 < 128
+pub all_ascii : (xs : List ℕ) → is_printable xs ≡ true → (i : ℕ) → get_or xs i 0 < 128
 all_ascii [] e i = omega arith
 all_ascii (x ∷ xs) e zero = ascii_byte x (and_parts (is_printable_byte x) _ e).0
 all_ascii (x ∷ xs) e (suc i) = all_ascii xs (and_parts (is_printable_byte x) _ e).1 i

@@ -13,7 +13,7 @@ mod printable;
 
 pub use digits::digit_run;
 pub use lines::{is_blank, line_end};
-pub use printable::{is_printable, printable_is_utf8, printable_run};
+pub use printable::{is_printable, printable_is_utf8, printable_run, printable_text};
 use std::simd::prelude::*;
 
 /// How many bytes stand before the first `byte`, or in all where there is none.

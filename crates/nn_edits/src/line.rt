@@ -123,12 +123,12 @@ fn fields_in<'a>(
     if line.len() > MAX_LINE_LEN {
         return Err(LineFault::LineTooLong);
     }
+    if read_plain(alloc, line, fields) {
+        return Ok(());
+    }
     let Ok(text) = from_utf8(line) else {
         return Err(LineFault::NotJson);
     };
-    if read_plain(alloc, text, fields) {
-        return Ok(());
-    }
     *fields = Fields::none();
     nn_plain::read_line(alloc, text, scratch, fields)?;
     Ok(())

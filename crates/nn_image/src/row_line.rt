@@ -38,13 +38,13 @@ pub(crate) fn row_line(alloc: Global, line: &[u8]) -> Result<RowLine, AllocError
     ensures end { IfOk result (λ r. is_end_row r ≡ is_end_line line.now) }
     ensures limit { IfOk result HasLimit }
 {
+    let mut members = RowMembers::none();
+    if read_plain(alloc, line, &mut members) {
+        return members.line(alloc);
+    }
     let Ok(text) = from_utf8(line) else {
         return Ok(RowLine::Bad);
     };
-    let mut members = RowMembers::none();
-    if read_plain(alloc, text, &mut members) {
-        return members.line(alloc);
-    }
     row_line_of_json(alloc, text)
 }
 

@@ -5,9 +5,10 @@
 //! may come in any order, may be repeated, and there may be others. Blanks may stand after each token, but no tab and no
 //! carriage return.
 //!
-//! `read_plain` needs no index, and looks at each byte few times. It says yes or no, and a no says nothing of the line: the
-//! caller then begins anew with `read_line`, which reads all of JSON, and that one decides. So each fault is told there.
-//! `read_value` hands it plain values, and passes over all others: no tree of values is made.
+//! `read_plain` needs no index, and looks at each byte few times. Printable bytes are UTF-8, so nobody asks that of a plain
+//! line. It says yes or no, and a no says nothing of the line: the caller then begins anew with `read_line`, which reads all of
+//! JSON, and that one decides. So each fault is told there. `read_value` hands it plain values, and passes over all others: no
+//! tree of values is made.
 #![tactic(auto)]
 
 mod any;

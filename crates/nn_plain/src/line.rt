@@ -1,27 +1,40 @@
 //! The object that a plain line is, read member by member.
-ghost use Rattle.std.specs.Prelude.{◌≡◌, length, Some, IsTrue};
+ghost use Rattle.std.specs.Prelude.{◌≡◌, length, Some, IsTrue, true};
+ghost use Rattle.std.specs.Str.{IsUtf8};
 ghost use Rattle.serde_json.specs.Data.{Members, object, no_members};
 ghost use Rattle.serde_json.specs.Read.{read};
+ghost use Rattle.nn_bytes.specs.Runs.{is_printable};
 ghost use Rattle.nn_plain.specs.Ahead.{members_at};
 
 use crate::blocks::{plain_blocks, plain_scalar};
 use crate::tokens::Tokens;
 use crate::value::Slots;
-use nn_bytes::is_printable;
+use nn_bytes::printable_text;
 use std::alloc::Global;
 
-/// Whether the text is a plain line. Then the slots have its members.
+/// Whether the bytes are a plain line. Then the slots have its members.
 ///
-/// Where it is not, the slots have any members, and are to be made anew. A line whose blocks find no memory is none
+/// Where they are not, the slots have any members, and are to be made anew. A line whose blocks find no memory is none
 /// either.
 #[inline(always)]
-pub fn read_plain<'a, S: Slots<'a>>(alloc: Global, line: &'a str, slots: &mut S) -> bool
+pub fn read_plain<'a, S: Slots<'a>>(alloc: Global, line: &'a [u8], slots: &mut S) -> bool
     requires { S.seen slots.old no_members }
+    ensures read { IsTrue result → (ms : Members) × (read line.now ≡ Some (object ms)) × S.seen slots.new ms }
+    ensures text { IsTrue result → IsUtf8 line.now }
+{
+    let Some(text) = printable_text(line) else {
+        return false;
+    };
+    read_printable(alloc, text, slots)
+}
+
+// The same of a text that is known to be printable.
+#[inline(always)]
+fn read_printable<'a, S: Slots<'a>>(alloc: Global, line: &'a str, slots: &mut S) -> bool
+    requires printable { is_printable line.now ≡ true }
+    requires none { S.seen slots.old no_members }
     ensures { IsTrue result → (ms : Members) × (read line.now ≡ Some (object ms)) × S.seen slots.new ms }
 {
-    if !is_printable(line.as_bytes()) {
-        return false;
-    }
     let Some(mut tokens) = Tokens::of_object(line) else {
         return false;
     };
@@ -38,7 +51,7 @@ fn plain_members<'a, S: Slots<'a>>(alloc: Global, tokens: &mut Tokens<'a>, slots
         × (members_at 126 (length tokens.old) no_members tokens.old ≡ Some (ms, tokens.new)) × S.seen slots.new ms }
 {
     'members: loop {
-        let Some(key) = tokens.next_key() else {
+        let Some(key) = tokens.next_key::<S>() else {
             return false;
         };
         let Some(key) = key else {
@@ -51,7 +64,7 @@ fn plain_members<'a, S: Slots<'a>>(alloc: Global, tokens: &mut Tokens<'a>, slots
             };
             slots.put_array(slot, blocks);
         } else {
-            let Some(value) = plain_scalar(tokens) else {
+            let Some(value) = plain_scalar::<S>(tokens) else {
                 return false;
             };
             slots.put(slot, value);

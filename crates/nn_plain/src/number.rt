@@ -8,26 +8,26 @@ ghost use Rattle.nn_plain.specs.Bytes.{DigitsRead};
 use crate::by_eight::digits_in_block;
 use nn_bytes::block_at;
 
-/// The number that stands at `from`, and where it ends.
+/// The number that stands at `from`, and where it ends. `S` is whom it is read for: each has a copy of the code.
 #[inline(always)]
-pub(crate) fn number_at(text: &str, from: usize) -> Option<(u64, usize)>
+pub(crate) fn number_at<S>(text: &str, from: usize) -> Option<(u64, usize)>
     requires { from ≤ length text.now }
     ensures number { IfSome result (λ r. IsNumber (take (r.1 - from) (drop from text.now))) }
     ensures value { IfSome result (λ r. number_of (take (r.1 - from) (drop from text.now)) ≡ Some (unsigned r.0)) }
     ensures bound { IfSome result (λ r. (from ≤ r.1) × (r.1 ≤ length text.now)) }
 {
-    digits_at(text.as_bytes(), from)
+    digits_at::<S>(text.as_bytes(), from)
 }
 
 // The same of the text's bytes.
 #[inline(always)]
-fn digits_at(text: &[u8], from: usize) -> Option<(u64, usize)>
+fn digits_at<S>(text: &[u8], from: usize) -> Option<(u64, usize)>
     requires { from ≤ length text.now }
     ensures number { IfSome result (λ r. IsNumber (take (r.1 - from) (drop from text.now))) }
     ensures value { IfSome result (λ r. number_of (take (r.1 - from) (drop from text.now)) ≡ Some (unsigned r.0)) }
     ensures bound { IfSome result (λ r. (from ≤ r.1) × (r.1 ≤ length text.now)) }
 {
-    let (end, n) = digits_from(text, from);
+    let (end, n) = digits_from::<S>(text, from);
     let digits = &text[from..end];
     if !begins_well(digits) {
         return None;
@@ -38,7 +38,7 @@ fn digits_at(text: &[u8], from: usize) -> Option<(u64, usize)>
 // Where the digits from `from` on end, and what they write. After 19 digits that count no further one is taken, so that the
 // number stays below 2^64.
 #[inline(always)]
-fn digits_from(text: &[u8], from: usize) -> (usize, u64)
+fn digits_from<S>(text: &[u8], from: usize) -> (usize, u64)
     requires { from ≤ length text.now }
     ensures read { DigitsRead text.now from result.0 result.1 }
     ensures bound { (from ≤ result.0) × (result.0 ≤ length text.now) }

@@ -7,9 +7,6 @@ ghost use Rattle.nn_plain.specs.Bytes.{is_no_quote};
 
 use nn_bytes::run_before;
 
-/// How many bytes are looked at one by one before a search begins.
-const NEAR: usize = 8;
-
 /// The text in quotes whose first quote stands at `from`, and where its last one ends.
 #[inline(always)]
 pub(crate) fn quoted_at(text: &str, from: usize) -> Option<(&str, usize)>
@@ -42,21 +39,11 @@ fn closing_quote(text: &[u8], from: usize) -> Option<usize>
 }
 
 // Where the first quote from `from` on stands. It is the length of the text where there is none.
-//
-// Most texts are short, and for these a search of many bytes at once does not pay.
 #[inline(always)]
 fn quote_end(text: &[u8], from: usize) -> usize
     requires { from ≤ length text.now }
     ensures value { result ≡ from + prefix_len is_no_quote (drop from text.now) }
     ensures bound { result ≤ length text.now }
 {
-    let near = text.len().min(from + NEAR);
-    let mut i = from;
-    while i < near && text[i] != b'"' {
-        i += 1;
-    }
-    if i < near {
-        return i;
-    }
-    i + run_before(&text[i..], b'"')
+    from + run_before(&text[from..], b'"')
 }

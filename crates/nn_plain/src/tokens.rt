@@ -66,8 +66,10 @@ impl<'a> Tokens<'a> {
     }
 
     /// The next key, and in it None at the brace that closes the object.
+    ///
+    /// `S` is whom it is read for. Each has a copy of the code, so that the compiler can put it into its one caller.
     #[inline(always)]
-    pub(crate) fn next_key(&mut self) -> Option<Option<Key<'a>>>
+    pub(crate) fn next_key<S>(&mut self) -> Option<Option<Key<'a>>>
         ensures read { IfSome result (λ k. read_key self.old ≡ Some (option_map (λ s. s.text.now) k, self.new)) }
         ensures word { IfSome result (λ k. IfSome k (λ s. length s.text.now ≤ 8 → Begins s.word s.text.now)) }
     {
@@ -98,7 +100,7 @@ impl<'a> Tokens<'a> {
 
     /// The text that comes next.
     #[inline(always)]
-    pub(crate) fn text(&mut self) -> Option<&'a str>
+    pub(crate) fn text<S>(&mut self) -> Option<&'a str>
         ensures { IfSome result (λ s. self.old ≡ string s.now ∷ self.new) }
     {
         if !self.fresh {
@@ -114,14 +116,14 @@ impl<'a> Tokens<'a> {
 
     /// The number of digits alone that comes next.
     #[inline(always)]
-    pub(crate) fn whole(&mut self) -> Option<u64>
+    pub(crate) fn whole<S>(&mut self) -> Option<u64>
         ensures { IfSome result (λ n. (s : List ℕ) × (self.old ≡ number s ∷ self.new) × (number_of s ≡ Some (unsigned n))) }
     {
         if !self.fresh {
             return None;
         }
         let text = self.text;
-        let (n, end) = number_at(text, self.at)?;
+        let (n, end) = number_at::<S>(text, self.at)?;
         let next = value_end(text, end)?;
         self.at = next;
         self.fresh = false;

@@ -14,15 +14,13 @@ returns-in_default-clause-end c = none_ends c.args.line.now (no_text_there c.arg
 
 pub returns-then-read_plain-clause-read : goal.returns-then-read_plain-clause-read
 returns-then-read_plain-clause-read c =
-    let text = c.in-Ok.ensures in
-    let found = c.if-read_plain.ensures refl in
-    IfOk-weaker c.line.result _ _ (λ r is. subst (IsReadAs c.args.line.now) (sym is) (line_read c.args.line.now found.0 _ text.1 (ap read (sym text.0) ∙ found.1) found.2)) c.line.ensures
+    let found = c.if-read_plain.ensures.read refl in
+    IfOk-weaker c.line.result _ _ (λ r is. subst (IsReadAs c.args.line.now) (sym is) (line_read c.args.line.now found.0 _ (c.if-read_plain.ensures.text refl) found.1 found.2)) c.line.ensures
 
 pub returns-then-read_plain-clause-end : goal.returns-then-read_plain-clause-end
 returns-then-read_plain-clause-end c =
-    let text = c.in-Ok.ensures in
-    let found = c.if-read_plain.ensures refl in
-    IfOk-weaker c.line.result _ _ (λ r is. ap is_end_row is ∙ ends_as c.args.line.now found.0 _ text.1 (ap read (sym text.0) ∙ found.1) found.2) c.line.ensures
+    let found = c.if-read_plain.ensures.read refl in
+    IfOk-weaker c.line.result _ _ (λ r is. ap is_end_row is ∙ ends_as c.args.line.now found.0 _ (c.if-read_plain.ensures.text refl) found.1 found.2) c.line.ensures
 
 pub returns-clause-read : goal.returns-clause-read
 returns-clause-read c = IfOk-weaker c.row_line_of_json.result _ _ (λ r h. subst (λ t. IsReadAs t r) c.in-Ok.ensures.0 h) c.row_line_of_json.ensures.read

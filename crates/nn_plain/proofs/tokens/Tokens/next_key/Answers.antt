@@ -5,18 +5,18 @@ use Rattle.nn_plain.proofs.TokensLeft.{close_left, key_left}
 use Rattle.nn_plain.proofs.tokens.Tokens.next_key.Goals as goal
 
 pub word_at-word-requires-clause-here : goal.word_at-word-requires-clause-here
-word_at-word-requires-clause-here c =
+word_at-word-requires-clause-here g c =
     let found = c.in_ok-key in
     rw (c.as_bytes.ensures.value) (behind_quote c.self.inside.text.now found.key.now _ c.in_ok-start.start found.ensures.here)
 
 pub returns-then-byte_at-eq125-clause-read : goal.returns-then-byte_at-eq125-clause-read
-returns-then-byte_at-eq125-clause-read c =
+returns-then-byte_at-eq125-clause-read g c =
     let a = c.self.inside in
     let there = sym c.byte_at.ensures.value ∙ c.if-byte_at-eq125.true in
     ap read_key (sym c.self.view_is ∙ close_left a.fresh a.text.now a.at c.after_blanks-self-inside.result there c.after_blanks-self-inside.ensures.skips)
 
 pub returns-clause-read : goal.returns-clause-read
-returns-clause-read c =
+returns-clause-read g c =
     let a = c.self.inside in
     let start = c.in_ok-start in
     let found = c.in_ok-key in

@@ -7,7 +7,7 @@ use Rattle.nn_plain.proofs.FirstToken.{number_then}
 use Rattle.nn_plain.proofs.tokens.Tokens.whole.Goals as goal
 
 pub returns : goal.returns
-returns c =
+returns g c =
     let a = c.self.inside in
     let d = a.text.now in
     let found = c.in_ok-n in

@@ -4,8 +4,8 @@ use Rattle.std.proofs.lemmas.Slice.Eq.{bytes_eq-Decides}
 use lib.Lanes.{Each1}
 use Rattle.nn_plain.specs.Words.{Begins, high_word}
 use Rattle.nn_plain.proofs.KeyWords.{high_words_same, key_small}
-use Rattle.nn_edits.specs.Parts.{slot_of, slot_text, all_slots, no_entry, entry_at, place_of}
-use Rattle.nn_edits.specs.declared.keys.Entry.{Entry}
+use Rattle.nn_edits.specs.Parts.{slot_of, slot_text, all_slots, no_short_key, short_key_at, place_of}
+use Rattle.nn_edits.specs.declared.keys.ShortKey.{ShortKey}
 use Rattle.nn_edits.specs.declared.keys.NumberKey.TheVariants as number
 use Rattle.nn_edits.specs.declared.keys.TextKey.TheVariants as text
 use Rattle.nn_edits.specs.declared.keys.Slot.{Slot}
@@ -13,14 +13,14 @@ use Rattle.nn_edits.specs.declared.keys.Slot.TheVariants.{Number, Text, Blocks}
 use Rattle.nn_edits.specs.declared.keys.TheConstants.{SHORT_KEYS}
 use Rattle.nn_edits.proofs.Results.{first_named_some}
 
-abbrev IsKeys : Entry → Type 0
+abbrev IsKeys : ShortKey → Type 0
 IsKeys e = (e.len ≡ 0) ⊎ ((e.word ≡ high_word (slot_text e.slot)) × (e.len ≡ length (slot_text e.slot)))
 
-abbrev AreKeys : List Entry → Type 0
+abbrev AreKeys : List ShortKey → Type 0
 AreKeys [] = Unit {0}
 AreKeys (e ∷ es) = IsKeys e × AreKeys es
 
-entry_in : (es : List Entry) (i : ℕ) → AreKeys es → i < length es → IsKeys (get_or es i no_entry)
+entry_in : (es : List ShortKey) (i : ℕ) → AreKeys es → i < length es → IsKeys (get_or es i no_short_key)
 entry_in [] i all within = absurd (omega (arith, within))
 entry_in (e ∷ es) zero all within = all.0
 entry_in (e ∷ es) (suc i) all within = entry_in es i all.1 (omega (arith, within))
@@ -28,10 +28,10 @@ entry_in (e ∷ es) (suc i) all within = entry_in es i all.1 (omega (arith, with
 each_entry : AreKeys SHORT_KEYS
 each_entry = (inl refl, (inr (refl, refl), (inr (refl, refl), (inr (refl, refl), (inr (refl, refl), (inr (refl, refl), (inl refl, (inr (refl, refl), (inr (refl, refl), (inr (refl, refl), (inr (refl, refl), (inr (refl, refl), (inr (refl, refl), (inl refl, (inr (refl, refl), (inr (refl, refl), tt))))))))))))))))
 
-abbrev entry_of : Slot → Entry
+abbrev entry_of : Slot → ShortKey
 entry_of slot = record { word = high_word (slot_text slot); len = length (slot_text slot); slot = slot }
 
-at_its_place : (slot : Slot) → length (slot_text slot) ≤ 8 → entry_at (place_of (high_word (slot_text slot))) ≡ entry_of slot
+at_its_place : (slot : Slot) → length (slot_text slot) ≤ 8 → short_key_at (place_of (high_word (slot_text slot))) ≡ entry_of slot
 at_its_place (Number number.Txid) short = refl
 at_its_place (Number number.Replication) short = absurd (omega (arith, short))
 at_its_place (Number number.Id) short = refl
@@ -85,7 +85,7 @@ unfolding slot_of
 named key slot e = first_named_some slot_text key all_slots slot e
 
 -- A key with the word and the length of an entry has the entry's slot.
-pub found : (key : List ℕ) (word i : ℕ) (e : Entry) → i < 16 → e ≡ entry_at i → Begins word key → 1 ≤ length key → e.word ≡ high_word key → e.len ≡ length key → Some e.slot ≡ slot_of key
+pub found : (key : List ℕ) (word i : ℕ) (e : ShortKey) → i < 16 → e ≡ short_key_at i → Begins word key → 1 ≤ length key → e.word ≡ high_word key → e.len ≡ length key → Some e.slot ≡ slot_of key
 found key word i e within is begins some same long = at (subst IsKeys (sym is) (entry_in SHORT_KEYS i each_entry within))
   where
     at : IsKeys e → Some e.slot ≡ slot_of key
@@ -95,14 +95,14 @@ found key word i e within is begins some same long = at (subst IsKeys (sym is) (
         sym (slot_of_text e.slot) ∙ ap slot_of text
 
 -- A key that has a slot has its entry in its place.
-pub not_found : (key : List ℕ) (e : Entry) → length key ≤ 8 → e ≡ entry_at (place_of (high_word key)) → (e.word ≡ high_word key → e.len ≡ length key → ⊥) → None ≡ slot_of key
+pub not_found : (key : List ℕ) (e : ShortKey) → length key ≤ 8 → e ≡ short_key_at (place_of (high_word key)) → (e.word ≡ high_word key → e.len ≡ length key → ⊥) → None ≡ slot_of key
 not_found key e short is other = at (slot_of key) refl
   where
     at : (o : Option Slot) → slot_of key ≡ o → None ≡ slot_of key
     at None none = sym none
     at (Some slot) there =
         let text : key ≡ slot_text slot = named key slot there in
-        let own : e ≡ entry_of slot = is ∙ ap (λ (k : List ℕ). entry_at (place_of (high_word k))) text ∙ at_its_place slot (subst (λ (k : List ℕ). length k ≤ 8) text short) in
+        let own : e ≡ entry_of slot = is ∙ ap (λ (k : List ℕ). short_key_at (place_of (high_word k))) text ∙ at_its_place slot (subst (λ (k : List ℕ). length k ≤ 8) text short) in
         absurd (other (ap (λ x. x.word) own ∙ ap high_word (sym text)) (ap (λ x. x.len) own ∙ ap length (sym text)))
 
 -- ---- Keys of no entry.

@@ -17,7 +17,7 @@ use Rattle.nn_edits.specs.declared.fault.LineFault.TheVariants.{MissingField, Ba
 use Rattle.nn_edits.specs.declared.fields.Fields.{Fields}
 use Rattle.nn_edits.specs.declared.fields.State.{State}
 use Rattle.nn_edits.specs.declared.fields.State.TheVariants.{Missing, Wanted, Other}
-use Rattle.nn_edits.specs.declared.keys.Entry.{Entry}
+use Rattle.nn_edits.specs.declared.keys.ShortKey.{ShortKey}
 use Rattle.nn_edits.specs.declared.keys.TheConstants.{FACTOR, SHORT_KEYS}
 use Rattle.nn_edits.specs.declared.keys.NumberKey.{NumberKey}
 use Rattle.nn_edits.specs.declared.keys.NumberKey.TheVariants as number
@@ -190,11 +190,11 @@ slot_of key = first_named slot_text key all_slots
 abbrev pub place_of : ℕ → ℕ
 place_of word = word * FACTOR % 2 ^ 64 / 2 ^ 60
 
-abbrev pub no_entry : Entry
-no_entry = record { word = 0; len = 0; slot = Blocks }
+abbrev pub no_short_key : ShortKey
+no_short_key = record { word = 0; len = 0; slot = Blocks }
 
-abbrev pub entry_at : ℕ → Entry
-entry_at place = get_or SHORT_KEYS place no_entry
+abbrev pub short_key_at : ℕ → ShortKey
+short_key_at place = get_or SHORT_KEYS place no_short_key
 
 -- Puts a member: of members with the same key the last one counts.
 abbrev pub put_number : NumberKey → Result ℕ LineFault → Parts → Parts
@@ -230,10 +230,10 @@ put_if_slot (Some slot) d p = put_slot slot d p
 -- ---- what each key makes of its member
 
 -- Whether there is no member, whatever its value would have to be.
-abbrev pub is_missing : {A : Type 0} → Result A LineFault → Bool
-is_missing (Ok x) = false
-is_missing (Err MissingField) = true
-is_missing (Err e) = false
+abbrev pub has_no_member : {A : Type 0} → Result A LineFault → Bool
+has_no_member (Ok x) = false
+has_no_member (Err MissingField) = true
+has_no_member (Err e) = false
 
 unfoldable pub number_from : Result ℕ LineFault → Result ℕ LineFault
 number_from number = number >>= λ n. within (nat_lt n (2 ^ 63)) n
@@ -245,7 +245,7 @@ unfoldable pub dn_from : Result ℕ LineFault → Result ℕ LineFault
 dn_from number = number >>= λ n. within (nat_le 1 n && nat_le n max_datanodes) n
 
 unfoldable pub profile_from : Result ℕ LineFault → Result Profile LineFault
-profile_from number = if is_missing number then Ok One else (number >>= λ n. ok_or (profile_of n) BadNumber)
+profile_from number = if has_no_member number then Ok One else (number >>= λ n. ok_or (profile_of n) BadNumber)
 
 unfoldable pub path_from : Result (List ℕ) LineFault → Result (List (List ℕ)) LineFault
 path_from text = text >>= λ s. ok_or (path_of s) BadPath
@@ -325,7 +325,7 @@ report_from p = do
 
 -- With a member `op` it is a transaction, else a report.
 unfoldable pub either_from : Parts → Result Line LineFault
-either_from p = if is_missing p.op then (do
+either_from p = if has_no_member p.op then (do
   report ← report_from p
   Ok (either.Report report)) else (do
     tx ← tx_from p

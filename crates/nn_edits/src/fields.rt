@@ -2,7 +2,7 @@
 ghost use Rattle.std.specs.Prelude.{◌≡◌};
 ghost use Rattle.serde_json.specs.Data.{Data, object, no_members};
 ghost use Rattle.nn_plain.specs.Spelling.{plain_of, spelled_or};
-ghost use Rattle.nn_edits.specs.Parts.{number_seen, text_given, text_seen, seen_fields, parts_of, put_number, put_text, put_blocks, number_of_value, text_of_value, text_fault, is_missing};
+ghost use Rattle.nn_edits.specs.Parts.{number_seen, text_given, text_seen, seen_fields, parts_of, put_number, put_text, put_blocks, number_of_value, text_of_value, text_fault, has_no_member};
 
 use crate::blocks::read_blocks;
 use crate::fault::LineFault;
@@ -79,7 +79,7 @@ impl<'a> Fields<'a> {
     /// Whether there is no member at a key.
     #[inline(always)]
     pub(crate) fn lacks_text(&self, key: TextKey) -> bool
-        ensures { result ≡ is_missing (text_seen self.now key) }
+        ensures { result ≡ has_no_member (text_seen self.now key) }
     {
         matches!(self.text_states[key as usize], State::Missing)
     }
@@ -87,7 +87,7 @@ impl<'a> Fields<'a> {
     /// Whether there is no member at a key.
     #[inline(always)]
     pub(crate) fn lacks_number(&self, key: NumberKey) -> bool
-        ensures { result ≡ is_missing (number_seen self.now key) }
+        ensures { result ≡ has_no_member (number_seen self.now key) }
     {
         matches!(self.number_states[key as usize], State::Missing)
     }

@@ -1,7 +1,7 @@
 //! The keys that the formats have, by the names that the code has for them.
 ghost use Rattle.std.specs.Prelude.{◌≡◌, ◌⊎◌, ◌≤◌, ◌<◌, ℕ, List, length};
 ghost use Rattle.nn_plain.specs.Words.{Begins};
-ghost use Rattle.nn_edits.specs.Parts.{entry_at, place_of, slot_of};
+ghost use Rattle.nn_edits.specs.Parts.{short_key_at, place_of, slot_of};
 
 use nn_plain::{high_word, word_of};
 
@@ -64,7 +64,7 @@ fn short_slot(word: u64, len: usize) -> Option<Slot>
     ensures { (key : List ℕ) → length key ≡ len → Begins word key → result ≡ slot_of key }
 {
     let word = high_word(word, len);
-    let entry = entry_at(place_of(word));
+    let entry = short_key_at(place_of(word));
     if entry.word != word {
         return None;
     }
@@ -75,9 +75,9 @@ fn short_slot(word: u64, len: usize) -> Option<Slot>
 }
 
 #[inline(always)]
-fn entry_at(place: usize) -> &'static Entry
+fn short_key_at(place: usize) -> &'static ShortKey
     requires { place < 16 }
-    ensures { result.now ≡ entry_at place }
+    ensures { result.now ≡ short_key_at place }
 {
     &SHORT_KEYS[place]
 }
@@ -103,7 +103,7 @@ fn long_slot(key: &str) -> Option<Slot>
 }
 
 // A key as the high bytes of a word. The entries that no key has are of no length.
-struct Entry {
+struct ShortKey {
     word: u64,
     len: u8,
     slot: Slot,
@@ -111,83 +111,83 @@ struct Entry {
 
 const FACTOR: u64 = 0x9a84_a999_0d95_9b25;
 
-static SHORT_KEYS: [Entry; 16] = [
-    Entry {
+static SHORT_KEYS: [ShortKey; 16] = [
+    ShortKey {
         word: 0,
         len: 0,
         slot: Slot::Blocks,
     },
-    Entry {
+    ShortKey {
         word: 0x6469_0000_0000_0000,
         len: 2,
         slot: Slot::Number(NumberKey::Id),
     },
-    Entry {
+    ShortKey {
         word: 0x646e_696b_0000_0000,
         len: 4,
         slot: Slot::Text(TextKey::Kind),
     },
-    Entry {
+    ShortKey {
         word: 0x6e65_6c00_0000_0000,
         len: 3,
         slot: Slot::Number(NumberKey::Len),
     },
-    Entry {
+    ShortKey {
         word: 0x6e65_6700_0000_0000,
         len: 3,
         slot: Slot::Number(NumberKey::Stamp),
     },
-    Entry {
+    ShortKey {
         word: 0x6469_7874_0000_0000,
         len: 4,
         slot: Slot::Number(NumberKey::Txid),
     },
-    Entry {
+    ShortKey {
         word: 0,
         len: 0,
         slot: Slot::Blocks,
     },
-    Entry {
+    ShortKey {
         word: 0x706f_0000_0000_0000,
         len: 2,
         slot: Slot::Text(TextKey::Op),
     },
-    Entry {
+    ShortKey {
         word: 0x6e64_0000_0000_0000,
         len: 2,
         slot: Slot::Number(NumberKey::Dn),
     },
-    Entry {
+    ShortKey {
         word: 0x6372_7300_0000_0000,
         len: 3,
         slot: Slot::Text(TextKey::Src),
     },
-    Entry {
+    ShortKey {
         word: 0x6b63_6f6c_6200_0000,
         len: 5,
         slot: Slot::Number(NumberKey::Block),
     },
-    Entry {
+    ShortKey {
         word: 0x736b_636f_6c62_0000,
         len: 6,
         slot: Slot::Blocks,
     },
-    Entry {
+    ShortKey {
         word: 0x656c_6966_6f72_7000,
         len: 7,
         slot: Slot::Number(NumberKey::Profile),
     },
-    Entry {
+    ShortKey {
         word: 0,
         len: 0,
         slot: Slot::Blocks,
     },
-    Entry {
+    ShortKey {
         word: 0x7473_6400_0000_0000,
         len: 3,
         slot: Slot::Text(TextKey::Dst),
     },
-    Entry {
+    ShortKey {
         word: 0x6874_6170_0000_0000,
         len: 4,
         slot: Slot::Text(TextKey::Path),

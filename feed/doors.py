@@ -175,9 +175,9 @@ class Doors:
             connection.close()
 
     def close(self):
-        """Lets what is under way be answered for a moment, and ends."""
+        """Lets answers that are under way be read for a moment, and ends. Who still waits for one gets none: nobody is left to give it."""
         end = clock() + 1
-        while clock() < end and any(it.stage in ("writing", "asked") for it in list(self.connections.values())):
+        while clock() < end and any(it.stage == "writing" for it in list(self.connections.values())):
             time.sleep(0.01)
         self.is_open = False
 

@@ -9,6 +9,7 @@ An ask has a kind, arguments, and the seconds within which it is answered. Kinds
     read NODE                  a Node
     write NODE TEXT VERSION    a node is replaced, if it has this version: its new version
     epoch HOST E               names an epoch to a feeder: {"epoch", "state"}
+    health HOST                asks a feeder for its health: {"state", "reason"}, with None where all is well
     fence HOST E, finalize E, active E T     a hook: what it printed
     promote T E WITHIN         asks the own service for a promotion: (status, body)
     stop PATIENCE              ends the own service, by a signal if it takes longer than so many seconds: `ordered`, `killed`, or `gone`

@@ -136,6 +136,8 @@ class Hands:
         if ask.kind == "epoch":
             host, epoch = ask.arguments
             return lambda: self.feeders[host].name_epoch(epoch, ask.within)
+        if ask.kind == "health":
+            return lambda: self.feeders[ask.arguments[0]].health(ask.within)
         if ask.kind == "promote":
             self.running[number] = held = Held()
             return lambda: self.own.feeder.promote(*ask.arguments, held.hold)

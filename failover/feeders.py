@@ -50,25 +50,29 @@ class Feeder:
         shown = {} if self.token is None or self.place.startswith("/") else {"Authorization": f"Bearer {self.token}"}
         return {"Content-Type": "application/json", **shown}
 
-    def post(self, path, members, seconds, hold=lambda _connection: None):
-        """Posts, and answers the status and the members of what came. `hold` is given the connection before anything is sent."""
+    def ask(self, method, path, members, seconds, hold=lambda _connection: None):
+        """Answers the status and the members of what came. `hold` is given the connection before anything is sent."""
         connection = Connection(self.place, seconds)
         hold(connection)
         try:
-            connection.request("POST", path, json.dumps(members), self.headers())
+            connection.request(method, path, None if members is None else json.dumps(members), self.headers())
             answer = connection.getresponse()
             return answer.status, members_in(answer.read(MOST_BYTES))
         finally:
             connection.close()
 
     def name_epoch(self, epoch, seconds):
-        status, body = self.post("/epoch", {"epoch": epoch}, seconds)
+        status, body = self.ask("POST", "/epoch", {"epoch": epoch}, seconds)
         if status != 200 or type(body.get("epoch")) is not int:
             return Failed("status", f"status {status} {body.get('code', '')}")
         return {"epoch": body["epoch"], "state": body.get("state")}
 
+    def health(self, seconds):
+        status, body = self.ask("GET", "/health", None, seconds)
+        return {"state": str(body.get("state")), "reason": reason_in(status, body)}
+
     def promote(self, txid, epoch, within, hold):
-        return self.post("/promote", {"txid": txid, "epoch": epoch, "within": within}, within + 5, hold)
+        return self.ask("POST", "/promote", {"txid": txid, "epoch": epoch, "within": within}, within + 5, hold)
 
 
 def members_in(data):
@@ -162,7 +166,7 @@ class Own:
             return "gone"
         is_ordered = False
         try:
-            is_ordered = self.feeder.post("/stop", {}, patience)[0] == 200
+            is_ordered = self.feeder.ask("POST", "/stop", {}, patience)[0] == 200
         except (OSError, http.client.HTTPException):
             pass
         if is_ordered and process.has_ended(until - time.monotonic()):
@@ -177,5 +181,10 @@ def length_of(head):
 
 
 def health_of(status, body, asked_at):
-    reason = None if status == 200 else str(body.get("reason") or f"status_{status}")
+    reason = reason_in(status, body)
     return Health(status == 200, str(body.get("state")), reason, int(body.get("known", 0)), int(body.get("txid", 0)), asked_at)
+
+
+def reason_in(status, body):
+    """Why a feeder is ill, as its answer says; or None."""
+    return None if status == 200 else str(body.get("reason") or f"status_{status}")

@@ -14,8 +14,8 @@ ROUNDS = 5
 RETRY_SECONDS = 0.2
 # Who is asked to make room for another host waits so long; and who made room stays out.
 ROOM_SECONDS, OUT_SECONDS = 5, 10
-# A planned failover is looked for so often.
-LOOK_SECONDS = 1
+# A planned failover is looked for so often; and where it goes is asked for its health so long.
+LOOK_SECONDS, HEALTH_SECONDS = 1, 1
 # More than a promotion may wait for the log.
 ANSWER_SECONDS = 6
 # The own service has so long to end itself: where an operator asked, and where the lock may go. Then a signal ends it.
@@ -260,13 +260,26 @@ def reign(core):
 
 
 def look_at_move(core, is_over):
-    """Goes where a planned failover names another host."""
+    """Goes where a planned failover names another host that may stand for election. Else it stays, and takes the name away."""
     node = yield Ask("read", ("move",), core.ttl)
     move = move_in(node)
     if move and not is_over and move["from"] == core.settings.host != move["to"]:
-        raise GivenUp("moved", f"a planned failover goes to {move['to']}", pause=False)
+        ill = yield from ill_of(core, move["to"])
+        if ill is None:
+            raise GivenUp("moved", f"a planned failover goes to {move['to']}", pause=False)
+        core.tell(f"stays active: a planned failover names {move['to']}, which is {ill}")
     if not isinstance(node, Failed) and node.text:
         yield Ask("write", ("move", "", node.version), core.ttl)
+
+
+def ill_of(core, host):
+    """Why a host may not stand for election, as its feeder says; or None."""
+    if host not in core.settings.hosts:
+        return "no host with a feeder"
+    answer = yield Ask("health", (host,), HEALTH_SECONDS)
+    if isinstance(answer, Failed):
+        return f"out of reach: {answer.text or answer.code}"
+    return answer["reason"] or (None if answer["state"] == "standby" else answer["state"])
 
 
 def move_in(node):

@@ -471,11 +471,24 @@ class Watch:
 
 
 def move(drill, host):
-    lane = drill.lane
-    words = [os.path.join(lane.failover, "zulurowan-failover"), "move", "--zookeeper", lane.ensemble.hosts, "--root", lane.root, "--digest", lane.digest]
-    done = subprocess.run(network.inside(lane.namespace, *words, "--to", lane.other(host).name), capture_output=True, text=True, timeout=90)
+    """Half of the time it names the other one first while that is ill: nothing happens then."""
+    other = drill.lane.other(host)
+    if drill.random.random() < 0.5:
+        other.feeder.signal(signal.SIGSTOP)
+        refused = ask_to_move(drill.lane, other)
+        other.feeder.signal(signal.SIGCONT)
+        if refused.returncode == 0 or "stays active" not in refused.stderr or not host.is_active():
+            raise Wrong(f"the planned failover to who is ill: {refused.stdout}{refused.stderr}")
+        drill.wait("who was ill is not ready again", lambda: drill.is_ready(other), READY_SECONDS)
+        drill.hit_at = clock()
+    done = ask_to_move(drill.lane, other)
     if done.returncode != 0:
         raise Wrong(f"the planned failover: {done.stdout}{done.stderr}")
+
+
+def ask_to_move(lane, host):
+    words = [os.path.join(lane.failover, "zulurowan-failover"), "move", "--zookeeper", lane.ensemble.hosts, "--root", lane.root, "--digest", lane.digest]
+    return subprocess.run(network.inside(lane.namespace, *words, "--to", host.name), capture_output=True, text=True, timeout=90)
 
 
 def end_controller(_drill, host):

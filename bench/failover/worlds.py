@@ -174,6 +174,8 @@ class Host:
         self.is_stopped = False
         self.writer = None
         self.session = None
+        # Whether where a planned failover goes was said to be well.
+        self.may_move = False
         self.paused_until = -TTL
         self.inbox = []
         # Whether requests to ZooKeeper, and its answers, are lost; and whether others reach this host.
@@ -246,6 +248,8 @@ class Host:
         while core is self.core and core.out:
             action, *given = core.out.pop(0)
             self.world.trace.append((round(self.world.now, 3), self.name, action, *given))
+            if core.step == "leaves" and core.refused[0] == "moved" and not self.may_move:
+                raise Broken(f"{self.name} makes room for who was not said to be well")
             if action == "ask":
                 self.world.carry_out(self, core, *given)
             elif action == "close":
@@ -354,7 +358,7 @@ class World:
                 self.after(self.random.choice((0.001, 0.003, 0.02)), lambda: host.event(core, "answered", number, value, sent_at))
 
         do = {
-            **{"epoch": self.name_epoch, "fence": self.fence, "finalize": self.finalize},
+            **{"epoch": self.name_epoch, "health": self.tell_health, "fence": self.fence, "finalize": self.finalize},
             **{"promote": self.promote, "active": self.start_writer, "stop": self.stop},
         }.get(ask.kind, self.ask_zookeeper)
         session = host.session
@@ -391,6 +395,13 @@ class World:
         is_reached = other is host or not (other.is_cut or host.is_cut)
         if other.feeder.is_up and is_reached:
             answer(other.feeder.name(ask.arguments[1]))
+
+    def tell_health(self, host, _core, ask, answer, _session):
+        other = self.hosts[ask.arguments[0]]
+        if other.feeder.is_up and not (other.is_cut or host.is_cut):
+            state = other.feeder.state
+            host.may_move = state == "standby" and not other.is_stopped
+            answer({"state": state, "reason": None if host.may_move else "stopped"})
 
     def fence(self, host, _core, ask, answer, _session):
         other = self.hosts[ask.arguments[0]]

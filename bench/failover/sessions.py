@@ -68,6 +68,7 @@ class Session:
         server = self.world.zookeeper
         if server.lock:
             other = next(it.name for it in self.hosts if it.name != server.lock[1])
+            self.world.moved_at = self.world.now
             server.write("move", json.dumps({"from": server.lock[1], "to": other}), server.nodes["move"][1])
 
     def heal(self):

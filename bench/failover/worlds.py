@@ -174,8 +174,8 @@ class Host:
         self.is_stopped = False
         self.writer = None
         self.session = None
-        # Whether where a planned failover goes was said to be well.
-        self.may_move = False
+        # Whether where a planned failover goes was said to be well; and when this service became active, or active anew.
+        self.may_move, self.promoted_at = False, 0.0
         self.paused_until = -TTL
         self.inbox = []
         # Whether requests to ZooKeeper, and its answers, are lost; and whether others reach this host.
@@ -248,8 +248,8 @@ class Host:
         while core is self.core and core.out:
             action, *given = core.out.pop(0)
             self.world.trace.append((round(self.world.now, 3), self.name, action, *given))
-            if core.step == "leaves" and core.refused[0] == "moved" and not self.may_move:
-                raise Broken(f"{self.name} makes room for who was not said to be well")
+            if core.step == "leaves" and core.refused[0] == "moved":
+                self.world.moves(self)
             if action == "ask":
                 self.world.carry_out(self, core, *given)
             elif action == "close":
@@ -272,6 +272,8 @@ class World:
         self.zookeeper = ZooKeeper(self)
         # The greatest epoch of a promotion; that of the last one for which the log was ended.
         self.greatest = self.ended = self.promotions = 0
+        # When a planned failover was asked for last.
+        self.moved_at = 0.0
         self.last = None
         self.hosts = {name: Host(self, name) for name in "ab"}
 
@@ -299,7 +301,7 @@ class World:
         self.promotions += 1
         if epoch <= self.greatest:
             raise Broken(f"promoted in epoch {epoch} behind {self.greatest}")
-        self.greatest = epoch
+        self.greatest, host.promoted_at = epoch, self.now
         self.ended = self.ended if is_again else epoch
         if is_again and self.last is not host:
             raise Broken(f"{host.name} goes on behind a promotion of {self.last.name}")
@@ -314,6 +316,13 @@ class World:
             raise Broken(f"promoted at {txid}, and {self.journal.size} were acknowledged")
         if txid > self.journal.size:
             raise Broken("promoted above the log")
+
+    def moves(self, host):
+        """A host makes room for another one."""
+        if not host.may_move:
+            raise Broken(f"{host.name} makes room for who was not said to be well")
+        if host.promoted_at > self.moved_at:
+            raise Broken(f"{host.name} follows a planned failover that is older than its promotion")
 
     def wrote(self, host):
         """An edit is acknowledged: nobody's whose log was ended for a promotion."""

@@ -125,6 +125,7 @@ class Feed:
         self.port = int(self.address.rpartition(":")[2].strip("/")) if self.address else None
         if self.address:
             until("it is loaded", self.is_loaded)
+            until("it has told that", lambda: "goes on from TXID" in self.told() or self.process.poll() is not None)
             self.child = child_of(self.process.pid)
 
     def command(self, place, *arguments):

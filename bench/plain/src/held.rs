@@ -20,21 +20,39 @@ impl DnSet {
 /// Queues up to this length are searched through; longer ones keep a set.
 const SHORT: usize = 8;
 
-#[derive(Debug, Default)]
-struct Queue {
-    items: VecDeque<Item>,
+/// An item with what is kept of its number.
+#[derive(Clone, Copy, Debug)]
+struct Numbered<N> {
+    item: Item,
+    number: N,
+}
+
+#[derive(Debug)]
+struct Queue<N> {
+    items: VecDeque<Numbered<N>>,
     /// DataNodes with a message in a queue that was ever longer than `SHORT`.
     waiting: Option<Box<DnSet>>,
 }
 
-impl Queue {
-    fn push(&mut self, item: Item) {
-        self.items.push_back(item);
+impl<N> Default for Queue<N> {
+    fn default() -> Self {
+        Queue {
+            items: VecDeque::new(),
+            waiting: None,
+        }
+    }
+}
+
+impl<N> Queue<N> {
+    fn push(&mut self, item: Item, number: N) {
+        self.items.push_back(Numbered { item, number });
         if let Some(waiting) = &mut self.waiting {
             waiting.insert(item.dn);
         } else if self.items.len() > SHORT {
             let mut waiting = DnSet::default();
-            self.items.iter().for_each(|item| waiting.insert(item.dn));
+            self.items
+                .iter()
+                .for_each(|held| waiting.insert(held.item.dn));
             self.waiting = Some(Box::new(waiting));
         }
     }
@@ -42,19 +60,26 @@ impl Queue {
     fn has(&self, dn: u16) -> bool {
         match &self.waiting {
             Some(waiting) => waiting.contains(dn),
-            None => self.items.iter().any(|item| item.dn == dn),
+            None => self.items.iter().any(|held| held.item.dn == dn),
         }
     }
 }
 
-#[derive(Default)]
-pub struct Held {
-    queues: BTreeMap<u64, Queue>,
+pub struct Held<N> {
+    queues: BTreeMap<u64, Queue<N>>,
 }
 
-impl Held {
-    pub fn hold(&mut self, block: u64, item: Item) {
-        self.queues.entry(block).or_default().push(item);
+impl<N> Default for Held<N> {
+    fn default() -> Self {
+        Held {
+            queues: BTreeMap::new(),
+        }
+    }
+}
+
+impl<N: Copy> Held<N> {
+    pub fn hold(&mut self, block: u64, item: Item, number: N) {
+        self.queues.entry(block).or_default().push(item, number);
     }
 
     pub fn holds(&self, dn: u16, block: u64) -> bool {
@@ -63,18 +88,18 @@ impl Held {
 
     /// Releases from a named block, in arrival order, what is due under `stamp` and has no earlier
     /// held message of its DataNode.
-    pub fn release_named(&mut self, block: u64, stamp: u64, mut process: impl FnMut(Item)) {
+    pub fn release_named(&mut self, block: u64, stamp: u64, mut process: impl FnMut(Item, N)) {
         let btree_map::Entry::Occupied(mut entry) = self.queues.entry(block) else {
             return;
         };
         let queue = entry.get_mut();
         let mut waiting = DnSet::default();
-        queue.items.retain(|item| {
+        queue.items.retain(|&Numbered { item, number }| {
             let keep = item.stamp > stamp || waiting.contains(item.dn);
             if keep {
                 waiting.insert(item.dn);
             } else {
-                process(*item);
+                process(item, number);
             }
             keep
         });
@@ -86,26 +111,27 @@ impl Held {
     }
 
     /// Releases everything of a retired block.
-    pub fn release_all(&mut self, block: u64, process: impl FnMut(Item)) {
+    pub fn release_all(&mut self, block: u64, mut process: impl FnMut(Item, N)) {
         if let Some(queue) = self.queues.remove(&block) {
-            queue.items.into_iter().for_each(process);
+            for Numbered { item, number } in queue.items {
+                process(item, number);
+            }
         }
     }
 
     /// Releases everything of the blocks in `first..=last`.
-    pub fn release_range(&mut self, first: u64, last: u64, mut process: impl FnMut(u64, Item)) {
+    pub fn release_range(&mut self, first: u64, last: u64, mut process: impl FnMut(u64, Item, N)) {
         while let Some((&block, _)) = self.queues.range(first..=last).next() {
-            self.release_all(block, |item| process(block, item));
+            self.release_all(block, |item, number| process(block, item, number));
         }
     }
 
     /// Releases everything, by ascending block.
-    pub fn release_rest(&mut self, mut process: impl FnMut(u64, Item)) {
+    pub fn release_rest(&mut self, mut process: impl FnMut(u64, Item, N)) {
         for (block, queue) in std::mem::take(&mut self.queues) {
-            queue
-                .items
-                .into_iter()
-                .for_each(|item| process(block, item));
+            for Numbered { item, number } in queue.items {
+                process(block, item, number);
+            }
         }
     }
 
@@ -119,8 +145,8 @@ impl Held {
                     .items
                     .iter()
                     .rev()
-                    .find(|item| item.dn == dn)
-                    .map(|item| (block, item))
+                    .find(|held| held.item.dn == dn)
+                    .map(|held| (block, &held.item))
             })
     }
 }

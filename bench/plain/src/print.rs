@@ -4,6 +4,7 @@ use std::io::{self, Write};
 
 use crate::blocks::{Class, State};
 use crate::engine::Engine;
+use crate::history::History;
 use crate::tree::Node;
 
 /// A text under way to a writer, with integers through `itoa`.
@@ -47,7 +48,7 @@ impl<W: Write> Out<W> {
     }
 }
 
-pub fn print(engine: &Engine, image: bool, writer: impl Write) -> io::Result<()> {
+pub fn print(engine: &Engine<impl History>, image: bool, writer: impl Write) -> io::Result<()> {
     let text = Vec::with_capacity(FLUSH_AT + 4096);
     let mut out = Out {
         text,
@@ -63,7 +64,7 @@ pub fn print(engine: &Engine, image: bool, writer: impl Write) -> io::Result<()>
     out.writer.flush()
 }
 
-fn tables<W: Write>(engine: &Engine, out: &mut Out<W>) -> io::Result<()> {
+fn tables<W: Write>(engine: &Engine<impl History>, out: &mut Out<W>) -> io::Result<()> {
     out.text("txid ").number(engine.last_txid).end_line()?;
     engine.tree.visit(|path, node| {
         match node {
@@ -127,7 +128,7 @@ fn tables<W: Write>(engine: &Engine, out: &mut Out<W>) -> io::Result<()> {
     .end_line()
 }
 
-fn save<W: Write>(engine: &Engine, out: &mut Out<W>) -> io::Result<()> {
+fn save<W: Write>(engine: &Engine<impl History>, out: &mut Out<W>) -> io::Result<()> {
     out.text("{\"awaiting\":[");
     for (n, id) in engine.sorted_awaiting().into_iter().enumerate() {
         out.text(if n > 0 { "," } else { "" }).number(id);

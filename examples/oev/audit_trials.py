@@ -19,11 +19,12 @@ from at_random import cluster_at_random
 from attribute_cases import check_attributes
 from audit_damages import BLOCKS, DAMAGES, HARMLESS, LOST, SPARE, in_inode, replaced, several, story
 from audit_forms import FORMS, long_in_chain, many_replications, marks_in_chain, moved_down, own_settings_in_chain
-from auditing import Audit
+from auditing import Audit, audited
 from cases import document, record, rename
 from chain import INODE_BYTES, OF_INODES, Chain
 from cluster import Cluster
 from formats import Refused, to_json
+from part_cases import WAYS, check_parts
 from progress import Progress
 from proved import Program
 from running import Running
@@ -661,13 +662,22 @@ def at_once(check, program, cluster, first, last, name, state=None):
     start = None if state and os.path.exists(state) else names[0]
     options = SimpleNamespace(start=start, to=names[1], files=names[2:], state=state, most=20)
     options.__dict__.update(json=False, quiet=True, progress=None, strict=False)
-    output = io.StringIO()
+    said = said_in_process(program, options, whole=True)
+    check.holds(f"{name} from TXID {first} to {last}", "\nthe same in " in said, said)
+    if state is None:
+        part = said_in_process(program, options, whole=False)
+        check.same(f"{name} from TXID {first} to {last}, by a part", (WAYS.search(part) is not None, WAYS.sub("", part)), (True, said))
+
+
+def said_in_process(program, options, whole):
+    """What an audit in this process says, by one of both ways."""
+    options.whole, options.sparse, output = whole, not whole, io.StringIO()
     with contextlib.redirect_stdout(output), tempfile.TemporaryDirectory() as folder:
         try:
-            is_same = Audit(program, folder, options).run()
+            audited(program, folder, options)
         except Refused as refused:
-            is_same = print(f"refused: {refused}")
-    check.holds(f"{name} from TXID {first} to {last}", is_same, output.getvalue())
+            print(f"refused: {refused}")
+    return output.getvalue()
 
 
 PARTS = (
@@ -693,4 +703,5 @@ PARTS = (
     check_chain,
     check_random,
     check_attributes,
+    check_parts,
 )

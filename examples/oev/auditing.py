@@ -18,8 +18,10 @@ from formats import PATH_NAMES, Refused
 from inodes import NONE
 from inodes_compared import InodesCompared, Ours, in_path_order
 from overlap import opened
+from part import is_sparse, names_between
 from progress import Progress
 from proved import chunks_of
+from rest import NO_REST
 from running import Running
 from second import Given, Second
 from starts import FirstImage, KeptImage
@@ -28,10 +30,22 @@ from told import told_of
 from verdict import AsObject, Printed, Scope, Verdict
 
 
+class Otherwise(Refused):
+    """An audit of a part does not find that all is the same. The whole says why."""
+
+
+def audited(program, folder, options):
+    """Audits by a part where that saves, and by the whole where the part does not say that all is the same."""
+    if is_sparse(options):
+        with contextlib.suppress(Refused):
+            return Audit(program, folder, options, is_of_part=True).run()
+    return Audit(program, folder, options).run()
+
+
 class Audit:
     """One audit, by its options, with the program and a folder for its files."""
 
-    def __init__(self, program, folder, options):
+    def __init__(self, program, folder, options, is_of_part=False):
         self.program = program
         self.folder = folder
         self.options = options
@@ -53,10 +67,14 @@ class Audit:
         # The inodes that the log makes, and what was found of both images' inodes.
         self.our_inodes = self.inodes = self.tree = None
         self.is_whole = False
+        # The names that files of the part have, if there is a part.
+        self.names = names_between(options, self.progress.open) if is_of_part else None
+        # What is compared by sums alone.
+        self.rest = NO_REST
 
     def run(self):
         """Tells what is found. Answers whether the second image is what the log makes of the first."""
-        self.second = Second(self.options.to, self.table, self.chain and self.chain.lock)
+        self.second = Second(self.options.to, self.table, self.chain and self.chain.lock, self.names)
         try:
             return self.judged()
         except Refused as reason:
@@ -81,8 +99,12 @@ class Audit:
         if contradiction is not None:
             self.differences.tell("inconsistent", contradiction)
         link = Link(start.link.first, facts.txid, start.link.audits + 1, start.link.cluster, in_order(log.bare), blocks=in_order(log.blocks), **self.table.members())
+        if self.names is not None and not (applies and contradiction is None):
+            raise Otherwise("the part has something to tell")
         if applies:
             self.compare_inodes(log, contradiction is None)
+            if self.names is not None:
+                self.compare_rest(start)
             alike = self.compare(facts, given, link, contradiction is None)
         if alike is not None and facts.low_inode is not None:
             self.differences.tell("inconsistent", facts.low_inode)
@@ -93,6 +115,8 @@ class Audit:
             behind.append(str(link if applies else start.link))
         scope = None if alike is None else self.scope(alike, facts, given, log)
         verdict = Verdict(start.link.txid, facts.txid, applies, self.differences.summary(), scope)
+        if self.names is not None and not verdict.is_same:
+            raise Otherwise(verdict.line())
         self.output.end(verdict, behind)
         return verdict.is_same
 
@@ -145,7 +169,7 @@ class Audit:
             return KeptImage(self.link, self.chain.name, self.place, self.table)
         if not self.options.start:
             raise Refused("--from FROM has to name the image that the log goes on from")
-        return FirstImage(self.options.start, self.table, self.progress.open)
+        return FirstImage(self.options.start, self.table, self.progress.open, self.names)
 
     def give(self, start, last_gen=0):
         """Gives the program the image that the log goes on from, by a table that has all of its names."""
@@ -249,6 +273,15 @@ class Audit:
         else:
             self.our_inodes.look(lambda paths: [NONE] * len(paths))
 
+    def compare_rest(self, start):
+        """Compares by sums what is not in the part of either image."""
+        gone = bytearray(len(start.dump.inodes))
+        for row in self.our_inodes.gone_rows:
+            gone[row] = True
+        self.rest = start.dump.sums_of_rest(gone, lambda: self.progress.open(self.options.start))
+        if self.rest != self.second.sums_of_rest():
+            raise Otherwise("the rest of the images differs")
+
     def keeping(self, link):
         """What keeps the state of a chain, with the inodes that the log makes, or else those of the second image."""
         columns, sets = ((), ()), ()
@@ -287,13 +320,14 @@ class Audit:
 
     def scope(self, alike, facts, given, log):
         """What was compared, and what was not."""
-        bare = log.bare.keys() | given.bare_kinds.keys()
+        bare = len(log.bare.keys() | given.bare_kinds.keys()) + self.rest.bare
+        alike.update(files=self.rest.files, blocks=self.rest.blocks)
         for path, count in given.too_deep.items():
             self.notes.append(f"not compared, below {self.table.in_words(path)}: {count:,} paths of too many names")
         found = self.inodes
         others = {
             "inodes that only snapshots hold": given.only_in_snapshots,
-            "files whose blocks no record tells": found.unknown_blocks() if found else len(bare),
+            "files whose blocks no record tells": found.unknown_blocks() if found else bare,
             "records with a carriage return in a name, taken as a line feed": log.edits.carriage_returns,
             "names of the image with a line feed, which may be a carriage return": facts.with_line_feeds,
             # One of the images may lack some.
@@ -309,7 +343,8 @@ class Audit:
         if found and found.trusted:
             self.notes.append(f"taken on trust into the chain: attributes of {found.trusted:,} inodes, which no record tells")
         others = Counter({what: int(count) for what, count in others.items() if count})
-        return Scope(alike, len(bare), found.count if found else 0, left, others)
+        inodes = found.count + self.rest.files if found else 0
+        return Scope(alike, bare, inodes, left, others, self.rest.files if self.names is not None else None)
 
 
 def in_order(kinds):

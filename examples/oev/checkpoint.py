@@ -11,12 +11,14 @@ from attributes import OF_INODE, Sets, of_inode
 from bare import OLD, STRIPED, bare_file, has_old_block, is_bare, kind_in_image, word_of
 from formats import FIRST_BLOCK_ID, FIRST_GEN, PATH_BYTES, Refused
 from dumps import elements
-from fsimage import NUMBERS, SECTION_BYTES, Dump, blocks_in, blocks_of, image_lines, is_striped
+from fsimage import INODE, LAYOUT, NUMBERS, SECTION_BYTES, Dump, blocks_in, blocks_of, image_lines, is_striped
 from inodes import NONE, Lists
 from loops import row_in_loop
 from mentions import REFERENCE, Mentions
+from reading import COMMON
+from rest import Again, Rest, Sifted, SiftedLists
 from shapes import children_of, named, texts_in
-from walk import Inconsistent
+from walk import SHORT_PATH, Inconsistent
 
 # What is taken of each element.
 TAKEN = {
@@ -33,7 +35,7 @@ TAKEN = {
 class Checkpoint(Dump):
     """An image of a real cluster."""
 
-    def __init__(self, table):
+    def __init__(self, table, names=None):
         super().__init__()
         self.table = table
         self.check_name = table.check_name
@@ -55,6 +57,11 @@ class Checkpoint(Dump):
         # How many paths lie below those of as many names as there may be. They are left out.
         self.too_deep = {}
         self.sets = Sets()
+        # The files that have none of these names, if there are any names: they are summed, and not in the arrays.
+        self.rest = None if names is None else Rest(names, self.sets)
+        if self.rest is not None:
+            self.inodes = Sifted(self.rest)
+            self.children = SiftedLists(self.inodes)
 
     def readers(self):
         return {**super().readers(), **self.mentions.readers(), REFERENCE: self.reference}
@@ -122,7 +129,18 @@ class Checkpoint(Dump):
         self.low_inode = self.mentions.low_last(self.inodes)
         self.referring.finish(self.inodes)
         self.reference_rows = self.inodes.rows_of(self.references)
+        if self.rest is not None:
+            self.finish_rest()
         super().finish()
+
+    def finish_rest(self):
+        """Gives the rest what directories refer to. What can't be said of it then is Refused."""
+        for owner, begin, end in zip(self.referring.owners, self.referring.ends, self.referring.ends[1:]):
+            ids = [self.references[place] for place in self.referring.numbers[begin:end] if place < len(self.references)]
+            self.rest.sift(owner, ids, self.inodes.ids)
+        self.rest.finish(self.inodes)
+        if self.least_block < FIRST_BLOCK_ID or self.greatest_block > self.last_block:
+            raise Refused("a block has an id that no block has")
 
     def refers(self, row):
         return self.referring.first[row] != NONE
@@ -141,20 +159,39 @@ class Checkpoint(Dump):
             if place >= len(self.references):
                 told = f"inode {self.inodes.ids[row]} has the refChild {place}"
                 raise Inconsistent(f"{told}, and the references are {len(self.references)}")
-            yield place
+            if self.rest is None or not self.rest.has(self.references[place]):
+                yield place
 
     def check_all_taken(self):
         """What the root does not lead to is held by snapshots alone, if there are any."""
         if not self.snapshots_count:
             super().check_all_taken()
         held = [row for row, is_taken in enumerate(self.is_taken) if not is_taken] if not all(self.is_taken) else []
-        self.only_in_snapshots = len(held)
+        self.only_in_snapshots = len(held) + self.count_away()
         looped = row_in_loop(held, self.all_below)
         if looped is not None:
             raise Inconsistent(f"inode {self.inodes.ids[looped]}, away from the root, is below itself")
         for lists in (self.children, self.referring):
             if lists.missing is not None:
                 raise Inconsistent(f"inode {lists.missing} is missing")
+
+    def count_away(self):
+        """How many files of the rest the root does not lead to."""
+        count = self.rest.count_out(self.rest.out(self.is_taken)) if self.rest is not None else 0
+        if count and not self.snapshots_count:
+            raise Refused("an inode is in no directory")
+        return count
+
+    def count_in(self, row):
+        return super().count_in(row) + (0 if self.rest is None else self.rest.count_at[row])
+
+    def sums_of_rest(self, is_gone, opened):
+        """The sums of the rest that the root leads to, but for what is in directories that are gone, by the rows of these.
+
+        Files that are out of it are read once more for that. `opened` opens the image.
+        """
+        out = self.rest.out([is_live and not row_is_gone for is_live, row_is_gone in zip(self.is_taken, is_gone)])
+        return self.rest.left(out, lambda out: sums_again(self, out, opened))
 
     def all_below(self, row):
         """The rows of all that a directory lists."""
@@ -192,6 +229,8 @@ class Checkpoint(Dump):
 
     def below(self, path, row):
         """They are looked at as the cluster has them, and are in the order of the names that the program has."""
+        if self.rest is not None and len(path) > SHORT_PATH:
+            raise Refused("a path may be too long")
         names, rows = super().below(path, row)
         if self.table.encoded.isdisjoint(names):
             return names, rows
@@ -211,6 +250,8 @@ class Checkpoint(Dump):
             self.table.shorten(path)
 
     def leave_below(self, path, row):
+        if self.rest is not None:
+            raise Refused("a path may have too many names")
         ahead, count = [row], 0
         while ahead:
             above = ahead.pop()
@@ -253,9 +294,35 @@ def name_section(name, opened):
             return None
 
 
-def read_image(name, table, opened):
-    """An image, and how it contradicts itself, or None. `opened` opens its file."""
-    dump = Checkpoint(table)
+class ReadAgain(Checkpoint):
+    """An image of which inodes are read once more, for what of the rest is out."""
+
+    def __init__(self, table, rest, out):
+        super().__init__(table)
+        self.inodes = Again(rest, out, self.sets)
+
+    def readers(self):
+        places = LAYOUT, NUMBERS, INODE, (*INODE, COMMON)
+        return {place: reader for place, reader in super().readers().items() if place in places}
+
+    def has_enough(self):
+        return self.inodes.left == 0
+
+
+def sums_again(dump, out, opened):
+    """The sums of the files of an image's rest that are out."""
+    again = ReadAgain(dump.table, dump.rest, out)
+    with opened() as file:
+        again.read_elements(file)
+    return again.inodes.sums
+
+
+def read_image(name, table, opened, names=None):
+    """An image, and how it contradicts itself, or None. `opened` opens its file.
+
+    With names it has only directories and files of these names, and sums of the rest.
+    """
+    dump = Checkpoint(table, names)
     try:
         with opened(name) as file:
             dump.read(file)

@@ -105,19 +105,30 @@ class Dump(Walk):
 
     def read(self, file):
         """Reads a dump, and answers this."""
+        self.read_elements(file)
+        self.check_whole()
+        self.finish()
+        return self
+
+    def read_elements(self, file):
+        """Reads what is wanted of a dump."""
         readers = self.readers()
         quick = {INODE: Known(self.inodes_in), LIST: Known(lists_in)} if self.is_quick else {}
         element = None
         try:
             for place, element in elements(file, "fsimage", set(readers), SECTION_BYTES, self.passed, {LIST: 0}, quick):
                 readers[place](element)
+                if self.has_enough():
+                    break
         except Inconsistent:
             raise
         except Refused as refused:
             raise Refused(told_in(file.name, element, refused)) from None
-        self.check_whole()
-        self.finish()
-        return self
+
+    @staticmethod
+    def has_enough():
+        """Whether no more of the dump is wanted."""
+        return False
 
     def finish(self):
         """Finds the inodes of all ids."""
@@ -269,8 +280,8 @@ class Dump(Walk):
         repeated = self.inodes.finish()
         if repeated is not None:
             raise Inconsistent(f"inode {self.inodes.ids[repeated]} comes twice")
-        if self.count != len(self.inodes):
-            raise Inconsistent(f"numInodes is {self.count}, and the inodes are {len(self.inodes)}")
+        if self.count != self.inodes.count():
+            raise Inconsistent(f"numInodes is {self.count}, and the inodes are {self.inodes.count()}")
 
     def awaiting(self):
         """The ids that were issued and that the log may still give to a file.

@@ -77,11 +77,15 @@ class Inodes:
         self.sets.extend(sets or bytes(len(columns.ids)))
 
     def add_file(self, inode_id, name, file, attributes=0):
-        kind, numbers = CLOSED if file.closed else OPEN, chain.from_iterable(file.blocks)
         if isinstance(file.blocks, NoBlocks):
-            kind, numbers = BARE, file.blocks.read
-            self.bare[len(self)] = NoBlocks(file.blocks.kind)
-        self.add(inode_id, name, kind, file.replication, numbers, attributes)
+            self.add_bare(inode_id, name, file, attributes)
+        else:
+            kind = CLOSED if file.closed else OPEN
+            self.add(inode_id, name, kind, file.replication, chain.from_iterable(file.blocks), attributes)
+
+    def add_bare(self, inode_id, name, file, attributes):
+        self.bare[len(self)] = NoBlocks(file.blocks.kind)
+        self.add(inode_id, name, BARE, file.replication, file.blocks.read, attributes)
 
     def finish(self):
         """Finds out where each id is. Answers the row of an id that came before, or None."""
@@ -94,6 +98,18 @@ class Inodes:
         if self.rows is None:
             self.rows = RowsOfIds(self.ids)
         return self.rows.of(ids)
+
+    def count(self):
+        """How many inodes came."""
+        return len(self)
+
+    def greatest(self):
+        """The greatest id."""
+        return max(self.ids, default=0)
+
+    def missing(self, ids):
+        """The place of the first of these ids that no inode has, or None."""
+        return next((at for at, row in enumerate(self.rows_of(ids)) if row == NONE), None)
 
     def name(self, row):
         """The bytes of a name."""

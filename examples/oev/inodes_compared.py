@@ -33,6 +33,8 @@ class Ours:
         self.inode_at = {}
         # The blocks of the bare files, by their ids, or None where they are not known.
         self.bare = {}
+        # The rows of the image that stand nowhere any more.
+        self.gone_rows = set()
 
     def full(self, name):
         """The bytes of the cluster's name for one of the program."""
@@ -55,7 +57,8 @@ class Ours:
                 placed[inode] = self.id_of(directory), self.full(name)
             if isinstance(node, File) and is_bare(node) and inode is not None:
                 self.bare[self.followed.id_of(inode)] = self.followed.blocks_of(node)
-        for row in self.gone(displaced, placed):
+        self.gone_rows = self.gone(displaced, placed)
+        for row in self.gone_rows:
             self.name(row, None)
         for row in self.followed.changed.keys() - placed.keys():
             self.name(row, self.entry(row))

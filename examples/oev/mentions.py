@@ -1,7 +1,6 @@
 """What an image says of inodes beside their section: ids that have to be those of inodes, and the last id issued."""
 from array import array
 
-from inodes import NONE
 from walk import Inconsistent
 
 LAST = ("INodeSection", "lastInodeId")
@@ -41,13 +40,13 @@ class Mentions:
     def check(self, inodes):
         """Refuses an id that no inode has."""
         for place, ids in self.ids.items():
-            missing = next((at for at, row in enumerate(inodes.rows_of(ids)) if row == NONE), None)
+            missing = inodes.missing(ids)
             if missing is not None:
                 raise Inconsistent(f"inode {ids[missing]} is missing, {CALLED[place]}")
 
     def low_last(self, inodes):
         """How the last id contradicts the inodes, or None. A NameNode would issue an id that exists."""
-        greatest = max(inodes.ids, default=0)
+        greatest = inodes.greatest()
         if self.last is None or self.last >= greatest:
             return None
         return f"lastInodeId is {self.last}, and there is an inode {greatest}"

@@ -76,6 +76,20 @@ class Columns(NamedTuple):
     # The kind of each inode and the texts of its attributes: three of a file, three of a directory.
     attributes: Iterable = ()
 
+    def picked(self, places):
+        """The inodes at these places."""
+        ends = self.block_ends
+        listed = [self.blocks[ends[at - 1] if at else 0 : ends[at]] for at in places]
+        return Columns(
+            array("q", map(self.ids.__getitem__, places)),
+            list(map(self.names.__getitem__, places)),
+            bytes(map(self.kinds.__getitem__, places)),
+            array("q", map(self.replications.__getitem__, places)),
+            array("q", chain.from_iterable(listed)),
+            list(accumulate(map(len, listed))),
+            Counter(),
+        )
+
 
 class Known:
     """Takes elements of forms that are known beforehand, by a function as those below."""

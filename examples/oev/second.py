@@ -62,7 +62,7 @@ class Given(NamedTuple):
 class Second:
     """The process that has the second image, as the audit sees it."""
 
-    def __init__(self, name, table, lock):
+    def __init__(self, name, table, lock, names=None):
         self.name = name
         self.shared = mmap.mmap(-1, PLACE.size)
         self.channel, other = Pipe()
@@ -74,7 +74,7 @@ class Second:
                 if lock is not None:
                     lock.close()
                 signal.signal(signal.SIGINT, signal.SIG_DFL)
-                Side(name, table, other, self.shared).serve()
+                Side(name, table, other, self.shared, names).serve()
                 status = 0
             finally:
                 os._exit(status)
@@ -123,6 +123,10 @@ class Second:
     def columns_at(self, paths):
         """The ids of what the image has at these paths, or NONE, the numbers of their sets, and these sets."""
         return self.asked("columns_at", paths)
+
+    def sums_of_rest(self):
+        """The sums of what is not in the part that was read."""
+        return self.asked("sums_of_rest")
 
     def asked(self, *words):
         with self.while_there():
@@ -183,11 +187,12 @@ class Noted:
 class Side:
     """The process itself."""
 
-    def __init__(self, name, table, channel, shared):
+    def __init__(self, name, table, channel, shared, names=None):
         self.name = name
         self.table = Table(table.full, table.replications)
         self.channel = channel
         self.shared = shared
+        self.names = names
         self.dump = None
 
     def serve(self):
@@ -216,7 +221,7 @@ class Side:
         return Noted(name, self.note)
 
     def read(self):
-        self.dump, contradiction = read_image(self.name, self.table, self.opened)
+        self.dump, contradiction = read_image(self.name, self.table, self.opened, self.names)
         dump = self.dump
         if dump.numbers is None:
             return Facts(contradiction, False)
@@ -229,6 +234,9 @@ class Side:
         inodes = self.dump.inodes
         replications = {number for number, kind in zip(inodes.replications, inodes.kinds) if kind not in (DIRECTORY, BARE)}
         kinds = {blocks.kind for blocks in inodes.bare.values()}
+        if self.dump.rest is not None:
+            replications |= self.dump.rest.replications
+            kinds |= self.dump.rest.kinds_of_bare
         return [*map(str, sorted(replications)), *sorted(map(word_of, kinds))]
 
     def give(self, names, replications, told):
@@ -283,6 +291,9 @@ class Side:
 
     def of_buckets(self, buckets):
         return self.table_of_inodes.of_buckets(buckets)
+
+    def sums_of_rest(self):
+        return self.dump.sums_of_rest(bytes(len(self.dump.inodes)), lambda: self.opened(self.name))
 
     def paths_of(self, ids):
         return [path_by(self.table_of_inodes.entry_of, inode_id) for inode_id in ids]

@@ -22,9 +22,9 @@ NO_NAME = "/"
 class FirstImage:
     """The first image of a chain, which is taken on trust."""
 
-    def __init__(self, name, table, opened):
+    def __init__(self, name, table, opened, names=None):
         self.name = name
-        self.dump, contradiction = read_image(name, table, opened)
+        self.dump, contradiction = read_image(name, table, opened, names)
         self.check(contradiction or self.dump.low_inode or low_number(self.dump))
         self.link = Link(self.dump.txid, self.dump.txid, 0, self.dump.cluster, {})
 

@@ -16,6 +16,8 @@ class Scope(NamedTuple):
     # What was not compared: titles, each with counts by kind, and counts beside them.
     left: dict
     others: Counter
+    # How many files were compared by sums alone, if not all went through the program.
+    by_sums: Optional[int] = None
 
     def compared(self):
         """What was compared in this run, in the order in which it is told."""
@@ -33,7 +35,13 @@ class Scope(NamedTuple):
     def words(self):
         left = self.not_compared()
         said = ", ".join(self.compared()) or "the last id and stamp"
-        return f"{said}; not compared: {sum(left.values()):,} items of {len(left):,} kinds"
+        return f"{said}; not compared: {sum(left.values()):,} items of {len(left):,} kinds{self.ways()}"
+
+    def ways(self):
+        """How many files went which way, where not all went through the program."""
+        if self.by_sums is None:
+            return ""
+        return f"; files through the program: {self.alike['files'] - self.by_sums:,}, by sums: {self.by_sums:,}"
 
     def lines(self):
         count = {name: f"{self.alike[name]:,}" for name in ("directories", "files", "blocks")}

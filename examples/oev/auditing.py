@@ -7,6 +7,7 @@ What can't be read leaves nothing to be said, and is Refused. A second image tha
 """
 import contextlib
 import json
+import os
 import sys
 from collections import Counter
 
@@ -14,11 +15,12 @@ from between import Converted
 from chain import Chain, Keeping, Link
 from checkpoint import name_section
 from comparison import Differences, compare
-from formats import PATH_NAMES, Refused
+from formats import PATH_NAMES, Refused, image_end
 from inodes import NONE
 from inodes_compared import InodesCompared, Ours, in_path_order
+from kept_part import NextState, PartOfKept, names_of_told
 from overlap import opened
-from part import is_sparse, names_between
+from part import is_sparse, names_between, txid_of
 from progress import Progress
 from proved import chunks_of
 from rest import NO_REST
@@ -30,27 +32,32 @@ from told import told_of
 from verdict import AsObject, Printed, Scope, Verdict
 
 
+# Where the lines of the part lie that the program printed.
+PART = "part"
+
+
 class Otherwise(Refused):
     """An audit of a part does not find that all is the same. The whole says why."""
 
 
 def audited(program, folder, options):
     """Audits by a part where that saves, and by the whole where the part does not say that all is the same."""
-    if is_sparse(options):
+    chain = Chain(options.state) if options.state else None
+    if is_sparse(options, chain and chain.found()[0]):
         with contextlib.suppress(Refused):
-            return Audit(program, folder, options, is_of_part=True).run()
-    return Audit(program, folder, options).run()
+            return Audit(program, folder, options, chain, is_of_part=True).run()
+    return Audit(program, folder, options, chain).run()
 
 
 class Audit:
     """One audit, by its options, with the program and a folder for its files."""
 
-    def __init__(self, program, folder, options, is_of_part=False):
+    def __init__(self, program, folder, options, chain=None, is_of_part=False):
         self.program = program
         self.folder = folder
         self.options = options
         self.output = AsObject() if options.json else Printed()
-        self.chain = Chain(options.state) if options.state else None
+        self.chain = chain or (Chain(options.state) if options.state else None)
         link, self.place = self.chain.found() if self.chain else (None, 0)
         self.table = Table(link.names, link.replications) if link else Table()
         self.link = link
@@ -68,7 +75,7 @@ class Audit:
         self.our_inodes = self.inodes = self.tree = None
         self.is_whole = False
         # The names that files of the part have, if there is a part.
-        self.names = names_between(options, self.progress.open) if is_of_part else None
+        self.names = self.names_of_part() if is_of_part else None
         # What is compared by sums alone.
         self.rest = NO_REST
 
@@ -83,6 +90,12 @@ class Audit:
             self.end_runs()
             self.second.end()
             self.progress.clear()
+
+    def names_of_part(self):
+        """The names that files of the part have: those that the log has, and those of which only a chain knows what they are."""
+        first = self.link.txid if self.link else txid_of(self.options.start)
+        names = names_between(first, txid_of(self.options.to), self.options.files, self.progress.open)
+        return names | names_of_told(self.link, self.table) if self.link else names
 
     def end_runs(self):
         for running in filter(None, (self.ours, self.theirs)):
@@ -117,6 +130,8 @@ class Audit:
         verdict = Verdict(start.link.txid, facts.txid, applies, self.differences.summary(), scope)
         if self.names is not None and not verdict.is_same:
             raise Otherwise(verdict.line())
+        if self.names is not None and self.chain is not None:
+            self.keep_part(start, link)
         self.output.end(verdict, behind)
         return verdict.is_same
 
@@ -166,7 +181,8 @@ class Audit:
         if self.link is not None:
             if self.options.start:
                 raise Refused(f"{self.chain.name} goes on from TXID {self.link.txid}, and --from is for the first audit alone")
-            return KeptImage(self.link, self.chain.name, self.place, self.table)
+            kept = self.link, self.chain.name, self.place, self.table
+            return KeptImage(*kept) if self.names is None else PartOfKept(*kept, self.names)
         if not self.options.start:
             raise Refused("--from FROM has to name the image that the log goes on from")
         return FirstImage(self.options.start, self.table, self.progress.open, self.names)
@@ -236,7 +252,7 @@ class Audit:
 
         Answers how many directories, files and blocks are alike, and tells what differs, if the second image is whole.
         """
-        keeping = self.keeping(link) if self.chain else None
+        keeping = self.keeping(link) if self.chain and self.names is None else None
         try:
             task = self.progress.task("comparing the images", given.size)
             ours = self.pieces_of_ours(keeping)
@@ -294,7 +310,7 @@ class Audit:
     def pieces_of_ours(self, keeping):
         """What answers the next lines of what the log makes, which are kept."""
         if not keeping:
-            return lambda: self.ours.piece(self.progress)
+            return self.piece_of_ours
         keeping.write(self.ours.first)
 
         def piece():
@@ -303,6 +319,34 @@ class Audit:
             return lines
 
         return piece
+
+    def piece_of_ours(self):
+        """The next lines, which a chain of parts wants again."""
+        lines = self.ours.piece(self.progress)
+        if self.chain is not None:
+            with open(os.path.join(self.folder, PART), "ab") as file:
+                file.write(lines)
+        return lines
+
+    def keep_part(self, start, link):
+        """Keeps what the log makes: the part as the program printed it, with the rest of the state of before."""
+        state, name = NextState(self.our_inodes, start), f"{self.chain.name}.lines"
+        with open(os.path.join(self.folder, PART), "rb") as part, open(name, "w+b") as lines:
+            os.remove(name)
+            lines.writelines(state.lines(part))
+            bare, blocks = ({**of, **more} for of, more in ((link.bare, state.bare), (link.blocks, state.blocks)))
+            sets = self.our_inodes.followed.sets.all
+            link = link._replace(bare=in_order(bare), blocks=in_order(blocks), inodes=len(state.ids), sets=sets)
+            keeping = Keeping(self.chain, link, (state.ids, state.sets))
+            try:
+                keeping.write(self.ours.first)
+                lines.seek(0)
+                for piece in chunks_of(lines):
+                    keeping.write(piece)
+                keeping.write(image_end(len(state.ids) - 1))
+                keeping.end()
+            finally:
+                keeping.drop()
 
     def compare_numbers(self, header, theirs):
         """Compares the last block id, and the last stamp.

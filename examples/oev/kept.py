@@ -62,7 +62,7 @@ class Kept(Names):
                 rows.append(groups_of(held[at : end + 1]))
                 more, at = matched(LINE, held, end + 1)
                 rows += more
-            self.take(rows)
+            self.take(rows, held[:at])
             if held.startswith(END, at):
                 break
             if not chunk:
@@ -72,7 +72,8 @@ class Kept(Names):
             self.leave()
         self.children.finish_rows(self.children.owners, len(self.inodes))
 
-    def take(self, rows):
+    def take(self, rows, _lines):
+        """Takes what the expression has in its groups for these lines."""
         if not rows:
             return
         *numbers, more, closed, paths, names, replications = zip(*rows)

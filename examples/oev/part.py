@@ -22,14 +22,21 @@ from overlap import merged
 PASSED_OVER = (LEFT_OUT | SNAPSHOTS) - SETTING.keys()
 WITH_MORE_PATHS = "OP_CONCAT_DELETE"
 
+# An image of fewer bytes, or a log of more than one part in so many of these, leaves little to be saved.
+LEAST_IMAGE, LOG_PART = 8_000_000, 4
 
-def is_sparse(options):
-    """Whether an audit gives the program a part alone, as its options say. It reads some files twice."""
-    if not options.sparse or options.whole:
+
+def is_sparse(options, link):
+    """Whether an audit gives the program a part alone: as its options say, or else where that saves.
+
+    It reads some files twice. The first audit of a chain is of the whole, since its state has to be whole.
+    """
+    if options.whole or bool(options.state) != bool(link and link.inodes):
         return False
-    if options.state:
-        raise Refused("--sparse is for audits without --state")
-    return bool(options.start) and all(map(is_regular, [options.start, options.to, *options.files]))
+    if not all(map(is_regular, [options.to, *options.files, *filter(None, [options.start])])):
+        return False
+    image, log = os.path.getsize(options.to), sum(map(os.path.getsize, options.files))
+    return options.sparse or image >= LEAST_IMAGE and log * LOG_PART <= image
 
 
 def is_regular(name):
@@ -39,11 +46,10 @@ def is_regular(name):
     return False
 
 
-def names_between(options, opened):
-    """The names in the paths of the records between two images, as bytes, as an image has them."""
-    first, last = map(txid_of, (options.start, options.to))
+def names_between(first, last, files, opened):
+    """The names in the paths of the records between two TXIDs, as bytes, as an image has them."""
     names = set()
-    with contextlib.closing(merged(options.files, opened, is_quick=True)) as records:
+    with contextlib.closing(merged(files, opened, is_quick=True)) as records:
         for record in records:
             if record.txid > last:
                 break

@@ -1,10 +1,15 @@
 """Trials of audits by a part: what no record names is compared by sums, and both ways say the same."""
+import json
+import os
 import re
+import shutil
+from array import array
 
 from audit_damages import in_inode, replaced, several, without_inode, written
 from cases import record
 from cluster import Cluster
 
+WAYS_TO_GO = "--sparse", "--whole"
 WAYS = re.compile(r"; files through the program: ([0-9,]+), by sums: ([0-9,]+)$", re.MULTILINE)
 
 # Names whose characters the dumps of an image and of a log may have otherwise.
@@ -138,9 +143,9 @@ def log_of(trials, story, lost=None, escape=str):
     return trials.log(*texts)
 
 
-def both_ways(trials, name, status, by_sums, *words):
-    """Both ways have to end with this status, and to say the same. Answers what they say."""
-    said = [trials.run(way, *words) for way in ("--sparse", "--whole")]
+def both_ways(trials, name, status, by_sums, *words, state=None):
+    """Both ways have to end with this status, and to say the same. Answers what they say. Each has a state of its own."""
+    said = [trials.run(way, *words, *(("--state", state + way) if state else ())) for way in WAYS_TO_GO]
     found = WAYS.search(said[0][1])
     trials.check.same(f"{name}: the status both ways", [it[0] for it in said], [status, status])
     trials.check.same(f"{name}: both ways say the same", (WAYS.sub("", said[0][1]), said[0][2]), said[1][1:])
@@ -162,6 +167,7 @@ def check_parts(trials):
     check_left_behind(trials)
     check_overwrite(trials)
     check_odd_rest(trials)
+    check_chain_of_parts(trials)
 
 
 def check_damages_of_rest(trials):
@@ -226,3 +232,70 @@ def check_odd_rest(trials):
     ):
         first, second = trials.check.file(images[0]), trials.check.file(damage(images[1]))
         both_ways(trials, f"{name}, which no record names", status, None, "--from", first, "--to", second, log)
+
+
+def chain_of_parts():
+    """Files that are made at the first link and named no more, a concat and a striped one among them; and four TXIDs."""
+    story = Warehouse()
+    cluster, txids = story.cluster, [story.first]
+    made, whole, more = (written(cluster, story.parts[0], name, 9) for name in ("made", "whole", "more"))
+    cluster.set_permissions(made, 0o600)
+    cluster.concat(whole, [more])
+    groups = cluster.create(story.parts[0], "groups", policy=1)
+    cluster.add_block(groups)
+    cluster.close(groups, 8)
+    for name in ODD_NAMES:
+        written(cluster, story.parts[2], name, 4)
+    txids.append(cluster.txid)
+    cluster.rename(story.parts[0], story.parts[1], "e\u00edn")
+    cluster.set_replication(story.parts[2].children["three-y"], 5)
+    txids.append(cluster.txid)
+    cluster.delete(story.parts[2])
+    cluster.touch(cluster.root)
+    cluster.rename(story.parts[0], cluster.root, "one")
+    txids.append(cluster.txid)
+    story.end()
+    return story, txids
+
+
+def check_chain_of_parts(trials):
+    """A chain says the same and keeps the same by both ways, link after link, and a damage of an old file is told."""
+    story, txids = chain_of_parts()
+    log, state = log_of(trials, story), os.path.join(trials.check.folder, "parts")
+    images = [story.cluster.images[txid] for txid in txids]
+    words = ["--from", trials.check.file(images[0])]
+    for place, by_sums in enumerate((None, 23, 10), 1):
+        if place == 3:
+            check_damages_in_chain(trials, state, images[place], log)
+        both_ways(trials, f"a chain of parts, {place}", 0, by_sums, *words, "--to", trials.check.file(images[place]), log, state=state)
+        kept = [kept_in(f"{state}{way}") for way in WAYS_TO_GO]
+        trials.check.same(f"what is kept by both ways, {place}", kept[0], kept[1])
+        words = []
+
+
+def check_damages_in_chain(trials, state, image, log):
+    damages = [
+        ("a replication", in_inode("made", "<replication>3<", "<replication>4<"), 'replication "/one/made" 3 4\n'),
+        ("a mode", in_inode("made", ":0600<", ":0644<"), 'attribute "/one/made" "mode" "0600" "0644"\n'),
+        ("a block group", in_inode("groups", "<numBytes>8<", "<numBytes>7<"), 'block "/one/groups" 0 '),
+        ("a block behind a concat", lambda text: re.sub("(<name>whole<.*?)<block>.*?</block>", r"\1", text, count=1), 'block "/one/whole" 0 '),
+    ]
+    for name, damage, told in damages:
+        for way in WAYS_TO_GO:
+            shutil.copytree(f"{state}{way}", f"{state}-copy{way}")
+        output = both_ways(trials, f"{name} in a chain", 1, None, "--to", trials.check.file(damage(image)), log, state=f"{state}-copy")
+        trials.check.contains(f"what is told of {name} in a chain", output, told)
+        for way in WAYS_TO_GO:
+            shutil.rmtree(f"{state}-copy{way}")
+
+
+def kept_in(folder):
+    """What a state has: its first line, the ids and the attributes of all inodes, and the image."""
+    with open(os.path.join(folder, "state"), "rb") as file:
+        members = json.loads(file.readline())
+        ids, sets = array("q"), array("I")
+        ids.fromfile(file, members["inodes"])
+        sets.fromfile(file, members["inodes"])
+        known = members.pop("sets")
+        del members["sha256"]
+        return members, ids, [known[number] for number in sets], file.read()

@@ -142,14 +142,18 @@ class KeptImage:
 
     def give_inodes(self, kept):
         """Gives its rows their ids and their sets of attributes."""
+        if len(kept.inodes) != self.link.inodes:
+            raise Refused(f"{self.name} has {self.link.inodes:,} inodes, and its image {len(kept.inodes):,}")
+        kept.inodes.ids, kept.inodes.sets = self.columns()
+
+    def columns(self):
+        """The ids of all inodes, and the numbers of their sets of attributes, in the order of the lines."""
         ids, sets = array("q"), array("I")
         with open(self.name, "rb") as file:
             file.seek(self.place - self.link.inodes * (ids.itemsize + sets.itemsize))
             ids.fromfile(file, self.link.inodes)
             sets.fromfile(file, self.link.inodes)
-        if len(kept.inodes) != self.link.inodes:
-            raise Refused(f"{self.name} has {self.link.inodes:,} inodes, and its image {len(kept.inodes):,}")
-        kept.inodes.ids, kept.inodes.sets = ids, sets
+        return ids, sets
 
     def name_in_file(self, name):
         full = self.table.full_name(name)

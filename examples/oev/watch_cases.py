@@ -13,6 +13,7 @@ from cases import document, record
 from commands import in_words
 from folders import Commands
 from formats import Refused
+from watching import is_whole_due
 
 HERE = os.path.dirname(os.path.realpath(__file__))
 WATCH = os.path.join(HERE, "watch")
@@ -179,6 +180,8 @@ def check_begin(place):
     output = place.tells("three images", 0, "the image of TXID 64 is the same in ")
     place.check.contains("the first of three images", output, "Z the image of TXID 58 is the same in ")
     place.stands("five images", 64, "same", "same", "same", "same")
+    due = [is_whole_due(audits, every) for every in (0, 1, 3) for audits in range(3)]
+    place.check.same("which audits are of the whole", due, [False] * 3 + [True] * 3 + [False, False, True])
     check_told(place)
 
 

@@ -133,6 +133,8 @@ class Watch:
         shown = os.path.join(self.work, "progress")
         words += ["--state", self.beside, "--most", str(MOST), "--json", "--progress", shown]
         words += ["--from", self.commands.dump("oiv", first)] if first else []
+        link, _ = self.chain.found()
+        words += ["--whole"] if is_whole_due(link.audits if link else 0, self.options.whole_every) else []
         words += ["--to", self.commands.dump("oiv", image), "--"]
         words += [self.commands.dump("oev", segment.path) for segment in segments]
         status, output, errors = self.commands.run(words, shown)
@@ -169,6 +171,11 @@ class Watch:
         if silent > self.options.warn_after:
             return WARNING, f"nothing new for {silent:,} seconds: {self.stopped}"
         return OK, f"nothing new: {self.stopped}; {judged['time']} {told_of(judged)}"
+
+
+def is_whole_due(audits, every):
+    """Whether the next audit of a chain of so many gives the program all of both images. With 0 none has to."""
+    return every > 0 and (audits + 1) % every == 0
 
 
 def told_of(result):

@@ -53,9 +53,9 @@ class Result(NamedTuple):
 
 
 class Drill:
-    def __init__(self, lane, number, fault, seed, turn):
-        """`turn`: how often this fault came before. Each step has its turn."""
-        self.lane, self.number, self.fault = lane, number, fault
+    def __init__(self, lane, number, fault, seed, turn, late):
+        """`turn`: how often this fault came before. Each step has its turn. `late`: a controller is killed so many seconds later."""
+        self.lane, self.number, self.fault, self.late = lane, number, fault, late
         self.random = random.Random(seed)
         self.is_takeover = fault in TAKEOVER or fault == ALONE and number % 2 == 0
         self.wanted, self.turn = STEPS[turn % len(STEPS)], turn
@@ -369,6 +369,7 @@ def cut_active(drill, host):
 
 def kill_and_cut_off(drill, host):
     """The controller is gone for good, and the other host does not reach this one. Who looks on does."""
+    time.sleep(drill.late)
     host.controller.is_off = True
     host.controller.signal(signal.SIGKILL)
     host.link.cut([drill.lane.other(host).address])

@@ -125,7 +125,6 @@ class Feed:
         self.port = int(self.address.rpartition(":")[2].strip("/")) if self.address else None
         if self.address:
             until("it is loaded", self.is_loaded)
-            until("it has told that", lambda: "goes on from TXID" in self.told() or self.process.poll() is not None)
             self.child = child_of(self.process.pid)
 
     def command(self, place, *arguments):
@@ -190,6 +189,11 @@ class Feed:
             return status if status["txid"] >= txid else None
 
         return until(f"TXID {txid}", reached)
+
+    def told_at_start(self):
+        """What it told, once it said from where it goes on."""
+        self.tells("goes on from TXID")
+        return self.told()
 
     def tells(self, part, times=1):
         """Waits until a text was told so many times."""

@@ -127,7 +127,7 @@ def check_killed_start(tally, place):
     tally.same("a program that is killed at the start ends the feeder", feed.ended(), 1)
     tally.same("its checkpoint is not passed over", "is passed over" in feed.told(), False)
     feed = Feed(place)
-    tally.contains("the next start takes it", feed.told(), "goes on from TXID 7\n")
+    tally.contains("the next start takes it", feed.told_at_start(), "goes on from TXID 7\n")
 
 
 def check_flips(tally, place):
@@ -150,13 +150,14 @@ def check_flips(tally, place):
                 told = feed.ended(), "the state is damaged" in feed.told()
                 tally.same(f"byte {at} of {name}", told, (1, True))
             else:
-                told = f"{newest} is passed over" in feed.told(), "goes on from TXID 7\n" in feed.told()
+                said = feed.told_at_start()
+                told = f"{newest} is passed over" in said, "goes on from TXID 7\n" in said
                 tally.same(f"byte {at} of {name}", told, (True, True))
                 feed.stop()
             with open(path, "wb") as file:
                 file.write(whole)
     feed = Feed(place)
-    tally.contains("as it was, it is taken", feed.told(), "goes on from TXID 14\n")
+    tally.contains("as it was, it is taken", feed.told_at_start(), "goes on from TXID 14\n")
 
 
 def check_begun(tally, place):

@@ -79,6 +79,26 @@ impl<'a> Freed<'a> {
     }
 }
 
+/// How many messages that would be: one pass.
+pub(crate) fn free_count(messages: &[Option<Message>], block: BlockId, status: Status) -> u64
+    ensures { result ≡ length (freed (due_at block status) [] (present messages.now)) }
+{
+    let _recalled = place_count(messages);
+    let mut freed = Freed::new(messages, block, status);
+    let mut count: u64 = 0;
+    while let Some(_) = freed.next() {
+        count += 1;
+    }
+    count
+}
+
+// How many places there are. It recalls to the prover that they are few enough for a `u64`.
+fn place_count(messages: &[Option<Message>]) -> u64
+    ensures { result ≡ length messages.now }
+{
+    messages.len() as u64
+}
+
 /// Whether this message, which stands at the place, goes, once those before it went that go. What is known of a
 /// DataNode is whether one of its messages before the place is not due.
 pub(crate) fn goes(

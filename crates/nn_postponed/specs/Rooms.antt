@@ -1,0 +1,9 @@
+-- The messages of a queue, which are few or many.
+use Rattle.std.specs.Prelude.{List}
+use Rattle.nn_types.specs.declared.report.Message.{Message}
+use Rattle.nn_postponed.specs.declared.queue.Room.{Room}
+use Rattle.nn_postponed.specs.declared.queue.Room.TheVariants.{Few, Many}
+
+abbrev pub waiting : Room → List Message
+waiting (Few q) = q
+waiting (Many q) = q

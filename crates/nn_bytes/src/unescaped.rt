@@ -1,6 +1,6 @@
 //! The bytes of a line as a text, where none of them is escaped. How far there are neither control characters nor backslashes is
 //! looked for in 16 bytes at a time.
-ghost use Rattle.std.specs.Prelude.{◌≡◌, ◌≤◌, ◌<◌, length, map, take, true, IfSome};
+ghost use Rattle.std.specs.Prelude.{◌≡◌, ◌≤◌, ◌<◌, length, map, take, true, IfSome, IsTrue};
 ghost use Rattle.std.specs.List.{prefix_len};
 ghost use Rattle.std.specs.Simd.Lanes.{mask_l};
 ghost use Rattle.std.specs.Str.{IsUtf8};
@@ -15,11 +15,15 @@ use std::str::from_utf8;
 /// The bytes of a line as a text, if they are UTF-8 and none but the last is a control character or a backslash.
 ///
 /// Whether they are UTF-8 is asked only where some are not printable ASCII. A carriage return may be the last one without it.
-/// None says nothing of the bytes.
+/// `printable` says that all are known to be. None says nothing of the bytes.
 #[inline(always)]
-pub fn unescaped_text(line: &[u8]) -> Option<&str>
+pub fn unescaped_text(line: &[u8], printable: bool) -> Option<&str>
+    requires { IsTrue printable → is_printable line.now ≡ true }
     ensures { IfSome result (λ text. (text.now ≡ line.now) × (is_unescaped_line text.now ≡ true) × IsUtf8 text.now) }
 {
+    if printable {
+        return Some(ascii_str(line));
+    }
     let run = printable_run(line);
     if run == line.len() {
         return Some(ascii_str(line));

@@ -1,6 +1,7 @@
 //! From the bytes of a line to a transaction or a report.
-ghost use Rattle.std.specs.Prelude.{◌≡◌, Ok, IfOk};
+ghost use Rattle.std.specs.Prelude.{◌≡◌, Ok, IfOk, IsTrue, true};
 ghost use Rattle.serde_json.specs.Data.{object, no_members};
+ghost use Rattle.nn_bytes.specs.Runs.{is_printable};
 ghost use Rattle.nn_edits.specs.Grammar.{IsEditLine, IsReportLine, IsLine, IsLawfulReport, IsLawfulLine};
 ghost use Rattle.nn_types.specs.LawfulEdit.{IsLawfulEdit};
 ghost use Rattle.nn_edits.specs.Outcome.{LineGives, LineGivesSeen};
@@ -16,7 +17,7 @@ use crate::keys::TextKey;
 use crate::reading::tx_in;
 use crate::report::report_in;
 use json::Scratch;
-use nn_plain::read_plain;
+use nn_plain::read_known_plain;
 use nn_types::limits::MAX_LINE_LEN;
 use nn_types::{Report, Tx};
 use simdutf8::basic::from_utf8;
@@ -73,14 +74,33 @@ pub fn read_line(alloc: Global, scratch: &mut Scratch, line: &[u8]) -> Result<Li
     ensures exact { LineGives result (either_of_line line.now) }
     ensures lawful { IfOk result IsLawfulLine }
 {
-    either_of_line(alloc, scratch, line)
+    either_of_line(alloc, scratch, line, false)
+}
+
+/// The same of a line of which it may be known already that it is printable: `printable` says so.
+pub fn read_known_line(
+    alloc: Global,
+    scratch: &mut Scratch,
+    line: &[u8],
+    printable: bool,
+) -> Result<Line, LineFault>
+    requires { IsTrue printable → is_printable line.now ≡ true }
+    // What is read is what the line spells.
+    ensures found { IfOk result (IsLine line.now) }
+    // What the line spells is read.
+    ensures only { (read : LineData) → IsLine line.now read → LineGives result (Ok read) }
+    // The fault is the first one in the order of the keys.
+    ensures exact { LineGives result (either_of_line line.now) }
+    ensures lawful { IfOk result IsLawfulLine }
+{
+    either_of_line(alloc, scratch, line, printable)
 }
 
 fn edit_of_line(alloc: Global, scratch: &mut Scratch, line: &[u8]) -> Result<Tx, LineFault>
     ensures { LineGives result (edit_of_line line.now) }
 {
     let mut fields = Fields::none();
-    fields_in(alloc, scratch, line, &mut fields)?;
+    fields_in(alloc, scratch, line, false, &mut fields)?;
     tx_in(alloc, &mut fields)
 }
 
@@ -88,15 +108,21 @@ fn report_of_line(alloc: Global, scratch: &mut Scratch, line: &[u8]) -> Result<R
     ensures { LineGives result (report_of_line line.now) }
 {
     let mut fields = Fields::none();
-    fields_in(alloc, scratch, line, &mut fields)?;
+    fields_in(alloc, scratch, line, false, &mut fields)?;
     report_in(&fields)
 }
 
-fn either_of_line(alloc: Global, scratch: &mut Scratch, line: &[u8]) -> Result<Line, LineFault>
+fn either_of_line(
+    alloc: Global,
+    scratch: &mut Scratch,
+    line: &[u8],
+    printable: bool,
+) -> Result<Line, LineFault>
+    requires { IsTrue printable → is_printable line.now ≡ true }
     ensures { LineGives result (either_of_line line.now) }
 {
     let mut fields = Fields::none();
-    fields_in(alloc, scratch, line, &mut fields)?;
+    fields_in(alloc, scratch, line, printable, &mut fields)?;
     either_in(alloc, &mut fields)
 }
 
@@ -115,15 +141,17 @@ fn fields_in<'a>(
     alloc: Global,
     scratch: &'a mut Scratch,
     line: &'a [u8],
+    printable: bool,
     fields: &mut Fields<'a>,
 ) -> Result<(), LineFault>
-    requires { seen_fields fields.old ≡ parts_of (object no_members) }
+    requires printable { IsTrue printable → is_printable line.now ≡ true }
+    requires none { seen_fields fields.old ≡ parts_of (object no_members) }
     ensures { LineGivesSeen (λ _. seen_fields fields.new) result (parts_of_line line.now) }
 {
     if line.len() > MAX_LINE_LEN {
         return Err(LineFault::LineTooLong);
     }
-    if read_plain(alloc, line, fields) {
+    if read_known_plain(alloc, line, printable, fields) {
         return Ok(());
     }
     let Ok(text) = from_utf8(line) else {

@@ -24,7 +24,7 @@ mod value;
 mod word;
 
 pub use any::read_value;
-pub use line::read_plain;
+pub use line::{read_known_plain, read_plain};
 pub use object::{ItemSink, MemberSink, ReadFault, read_array, read_line, read_object};
 pub use value::{Plain, Slots};
 pub use word::{high_word, word_of};

@@ -3,7 +3,7 @@ ghost use Rattle.std.specs.Prelude.{◌≡◌, length, Some, IsTrue, true};
 ghost use Rattle.std.specs.Str.{IsUtf8};
 ghost use Rattle.serde_json.specs.Data.{Members, object, no_members};
 ghost use Rattle.serde_json.specs.Read.{read};
-ghost use Rattle.nn_bytes.specs.Runs.{is_unescaped_line};
+ghost use Rattle.nn_bytes.specs.Runs.{is_printable, is_unescaped_line};
 ghost use Rattle.nn_plain.specs.Ahead.{members_at};
 
 use crate::blocks::{plain_blocks, plain_scalar};
@@ -22,7 +22,23 @@ pub fn read_plain<'a, S: Slots<'a>>(alloc: Global, line: &'a [u8], slots: &mut S
     ensures read { IsTrue result → (ms : Members) × (read line.now ≡ Some (object ms)) × S.seen slots.new ms }
     ensures text { IsTrue result → IsUtf8 line.now }
 {
-    let Some(text) = unescaped_text(line) else {
+    read_known_plain(alloc, line, false, slots)
+}
+
+/// The same of bytes of which it may be known already that they are printable: `printable` says so.
+#[inline(always)]
+pub fn read_known_plain<'a, S: Slots<'a>>(
+    alloc: Global,
+    line: &'a [u8],
+    printable: bool,
+    slots: &mut S,
+) -> bool
+    requires printable { IsTrue printable → is_printable line.now ≡ true }
+    requires none { S.seen slots.old no_members }
+    ensures read { IsTrue result → (ms : Members) × (read line.now ≡ Some (object ms)) × S.seen slots.new ms }
+    ensures text { IsTrue result → IsUtf8 line.now }
+{
+    let Some(text) = unescaped_text(line, printable) else {
         return false;
     };
     read_unescaped(alloc, text, slots)

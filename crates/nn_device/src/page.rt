@@ -12,25 +12,33 @@ use std::alloc::Global;
 use std::io::Write;
 use std::marker::Model;
 
-/// The bytes after which what was gathered is written.
+/// The bytes of a part: what was gathered is written once there is no room for more.
 const PART: usize = 65_536;
 
-/// Gathers a text piece by piece, and writes it in parts of some 65,536 bytes. No piece is refused: one for which there is no
+/// The room that the first piece gets, where it is not longer. It doubles up to `PART`.
+const FIRST_ROOM: usize = 512;
+
+/// Gathers a text piece by piece, and writes it in parts of at most 65,536 bytes. No piece is refused: one for which there is no
 /// memory is written at once, and what comes behind a failed write is let go. `end` tells of that write, and so does `has_failed` before the end.
 #[derive(Debug, Drop)]
 pub struct Page {
-    // what is to be written
-    gathered: Vec<u8>,
-    // whether a write failed
+    // what is to be written stands at its begin
+    room: Vec<u8>,
+    // how many bytes that are
+    used: usize,
+    // whether a write failed; there is no room then
     lost: bool,
 }
 
 impl Model for Page {
+    ghost use Rattle.std.specs.Prelude.{◌≡◌, ◌≤◌, [], take, length, true};
     ghost use Rattle.nn_device.specs.Page.{Page};
 
     ghost Value = { Page };
 
-    ghost view = { λ p. record { left = p.gathered.items; lost = p.lost } };
+    ghost view = { λ p. record { left = take p.used p.room.items; lost = p.lost } };
+
+    ghost invariant = { λ p. (p.used ≤ length p.room.items) × (p.lost ≡ true → p.room.items ≡ []) };
 }
 
 impl Page {
@@ -39,36 +47,68 @@ impl Page {
         ensures { (start : WriterView) → HasPut start [] result start }
     {
         Page {
-            gathered: Vec::new(alloc),
+            room: Vec::new(alloc),
+            used: 0,
             lost: false,
         }
     }
 
     /// The next piece of the text. The whole of a text has to go to one writer.
+    #[inline(always)]
     pub fn put<W: Write>(&mut self, writer: &mut Writer<W>, piece: &[u8])
         ensures { PutsPiece piece.now self.old writer.old self.new writer.new }
     {
-        self.write_full(writer);
-        if self.lost {
+        if piece.len() > self.room.len() - self.used {
+            self.put_without_room(writer, piece);
             return;
         }
-        if let Err(_) = self.gathered.extend_from_slice(piece) {
-            self.flush(writer);
-            self.write_piece(writer, piece);
-        }
+        let end = self.used + piece.len();
+        self.room[self.used..end].copy_from_slice(piece);
+        self.used = end;
     }
 
-    /// The next byte of the text, in fewer steps than a piece of one byte. It is written with a later piece, or at the end.
+    /// The next byte of the text, in fewer steps than a piece of one byte.
+    #[inline(always)]
     pub fn put_byte<W: Write>(&mut self, writer: &mut Writer<W>, byte: u8)
         ensures { PutsPiece (byte ∷ []) self.old writer.old self.new writer.new }
     {
-        if self.lost {
+        if self.used == self.room.len() {
+            self.put_without_room(writer, &[byte]);
             return;
         }
-        if let Err(_) = self.gathered.push(byte) {
+        self.room[self.used] = byte;
+        self.used += 1;
+    }
+
+    // The next piece, where there is no room for it yet.
+    #[inline(never)]
+    fn put_without_room<W: Write>(&mut self, writer: &mut Writer<W>, piece: &[u8])
+        ensures { PutsPiece piece.now self.old writer.old self.new writer.new }
+    {
+        self.make_room(writer, piece.len());
+        if piece.len() > self.room.len() - self.used {
             self.flush(writer);
-            self.write_piece(writer, &[byte]);
+            self.write_piece(writer, piece);
+            return;
         }
+        let end = self.used + piece.len();
+        self.room[self.used..end].copy_from_slice(piece);
+        self.used = end;
+    }
+
+    // Makes room for so many bytes: by more memory up to a part, then by writing what was gathered. There may be less of it.
+    fn make_room<W: Write>(&mut self, writer: &mut Writer<W>, more: usize)
+        ensures { PutsPiece [] self.old writer.old self.new writer.new }
+    {
+        if self.lost || more > PART {
+            return;
+        }
+        if self.used + more > PART {
+            self.flush(writer);
+            return;
+        }
+        let wanted = (2 * self.room.len()).max(self.used + more).max(FIRST_ROOM).min(PART);
+        let _ = self.room.resize(wanted, 0);
     }
 
     /// Whether a write failed. Whoever puts a long text may end it then: no more of it is written.
@@ -82,7 +122,7 @@ impl Page {
     pub fn pending(&self) -> usize
         ensures { result ≡ length self.now.left }
     {
-        self.gathered.len()
+        self.used
     }
 
     /// Writes what was gathered: the writer has all that was put then, unless a write failed.
@@ -91,13 +131,12 @@ impl Page {
         ensures none { self.new.left ≡ [] }
     {
         if self.lost {
-            self.gathered.clear();
             return;
         }
-        let written = writer.write_part(&self.gathered);
-        self.gathered.clear();
+        let written = writer.write_part(&self.room[..self.used]);
+        self.used = 0;
         if let Err(_) = written {
-            self.lost = true;
+            self.lose();
         }
     }
 
@@ -107,23 +146,23 @@ impl Page {
         ensures prefix { IfErr result (λ cause. (start : WriterView) (text : List ℕ) → HasPut start text self writer.old → TookPrefix start writer.new text cause) }
         ensures cause { IfErr result (λ cause. cause ≡ WriteFailed) }
     {
-        let Page { gathered, lost } = self;
+        let Page { room, used, lost } = self;
         if lost {
             return Err(OutputFault::WriteFailed);
         }
-        match writer.write_part(&gathered) {
+        match writer.write_part(&room[..used]) {
             Ok(()) => Ok(()),
             Err(_) => Err(OutputFault::WriteFailed),
         }
     }
 
-    // Writes what was gathered, if that is a part.
-    fn write_full<W: Write>(&mut self, writer: &mut Writer<W>)
-        ensures { PutsPiece [] self.old writer.old self.new writer.new }
+    // Notes a failed write, and takes the room away.
+    fn lose(&mut self)
+        ensures { self.new ≡ record { left = []; lost = true } }
     {
-        if self.gathered.len() >= PART {
-            self.flush(writer);
-        }
+        self.room.clear();
+        self.used = 0;
+        self.lost = true;
     }
 
     // Writes a piece behind what was written.
@@ -135,7 +174,7 @@ impl Page {
             return;
         }
         if let Err(_) = writer.write_part(piece) {
-            self.lost = true;
+            self.lose();
         }
     }
 }

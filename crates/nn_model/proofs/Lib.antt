@@ -27,3 +27,5 @@ pub mod Whole
 pub mod Orders
 pub mod Standings
 mod Profiles
+mod Kept
+mod Parts

@@ -46,14 +46,14 @@ its_file n p some no_dir = a_file (lookup n p) (stands (lookup n p) some) (when_
 
 -- ---- trees, as look-ups
 
-abbrev InRange : Form → Type 0
+abbrev pub InRange : Form → Type 0
 InRange Dir = Unit {0}
 InRange (File file) = (1 ≤ file.replication) × (file.replication ≤ 512)
 
-record IsTree (f : Path → Option Form) : Type 0 where
-  root : f [] ≡ Some Dir
-  parents : HasParents f
-  replications : (p : Path) (form : Form) → f p ≡ Some form → InRange form
+pub record IsTree (f : Path → Option Form) : Type 0 where
+  pub root : f [] ≡ Some Dir
+  pub parents : HasParents f
+  pub replications : (p : Path) (form : Form) → f p ≡ Some form → InRange form
 
 same_tree : (f g : Path → Option Form) → ((q : Path) → g q ≡ f q) → IsTree f → IsTree g
 same_tree f g same t = record {
@@ -154,7 +154,7 @@ module _ (f : Path → Option Form) (t : IsTree f) where
 
 -- ---- edit by edit
 
-tree_of : (n : Namespace) → IsWellFormed n → IsTree (lookup n)
+pub tree_of : (n : Namespace) → IsWellFormed n → IsTree (lookup n)
 tree_of n w = record { root = w.root; parents = w.parents; replications = λ p form there. ranges p form there }
   where
     ranges : (p : Path) (form : Form) → lookup n p ≡ Some form → InRange form
@@ -191,7 +191,7 @@ module _ (n : Namespace) (t : IsTree (lookup n)) where
         blocks = bs;
       }) ok.0 ok.1.0 ok.1.1.0 ok.1.1.1.0 (same_range p ok.1.1.0 ok.1.1.1.0)
 
-  edit_tree : (edit : Edit) → refusal n edit ≡ None → IsTree (lookup (effect n edit))
+  pub edit_tree : (edit : Edit) → refusal n edit ≡ None → IsTree (lookup (effect n edit))
   edit_tree (StartSegment profile) applies = t
   edit_tree EndSegment applies = t
   edit_tree (Mkdir p) applies = let ok = all_none (checks n (Mkdir p)) applies in free_row p Dir ok.0 ok.1.0 ok.1.1.0 tt

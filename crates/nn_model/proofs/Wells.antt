@@ -239,7 +239,7 @@ module _ (n : Namespace) (w : HasWellFormedBlocks n) where
       (λ b here. elim (put_from blocks_of p form n.rows b here) [ inl own ↦ new b own | inr old ↦ w.issued b old ])
 
   -- some of the rows, in another order or at other paths
-  fewer_well : (rows : List (Path × Form)) → is_sorted path_cmp rows ≡ true → ((id : ℕ) → times id (blocks_in rows) ≤ times id (all_blocks n)) →
+  pub fewer_well : (rows : List (Path × Form)) → is_sorted path_cmp rows ≡ true → ((id : ℕ) → times id (blocks_in rows) ≤ times id (all_blocks n)) →
       ((b : Block) → Includes (blocks_in rows) b → Includes (all_blocks n) b) → HasWellFormedBlocks (record n { rows = rows })
   fewer_well rows sorted fewer old = rows_well rows sorted (λ id. omega (arith, fewer id, w.once id)) (λ b here. w.issued b (old b here))
 

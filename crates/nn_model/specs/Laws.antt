@@ -1,18 +1,21 @@
 -- What edits and logs keep, as statements; the functions of the crate prove them.
-use Rattle.std.specs.Prelude.{◌≡◌, ℕ, ◌+◌, ◌<◌, ◌≤◌, true, false, List, [], ◌∷◌, ◌++◌, length, None, Ok}
+use Rattle.std.specs.Prelude.{◌≡◌, ℕ, ◌+◌, ◌<◌, ◌≤◌, true, false, List, [], ◌∷◌, ◌++◌, length, flat_map, None, Ok}
 use Rattle.std.specs.Option.{option_map}
+use Rattle.std.specs.List.{list_all, fold}
+use Rattle.std.specs.Result.{result_map_both}
 use Rattle.nn_types.specs.declared.edit.Edit.{Edit}
 use Rattle.nn_types.specs.declared.tx.Tx.{Tx}
 use Rattle.nn_types.specs.LawfulEdit.{IsLawfulEdit, IsUtf8Edit}
 use Rattle.nn_types.specs.declared.profile.Profile.{Profile}
 use Rattle.nn_types.specs.declared.profile.Profile.TheVariants.{One}
 use Rattle.nn_model.specs.Namespace.{Path, Namespace, lookup}
-use Rattle.nn_model.specs.Apply.{has_id, refusal, effect}
+use Rattle.nn_model.specs.Apply.{has_id, refusal, effect, applied}
 use Rattle.nn_model.specs.Status.{block_at, due_in}
 use Rattle.nn_model.specs.Touched.{touched, row_after, block_after, is_touched}
 use Rattle.nn_model.specs.Blocks.{block_row_at}
 use Rattle.nn_model.specs.WellFormed.{Includes, HasWellFormedBlocks, IsWellFormed, HasUtf8Names}
 use Rattle.nn_model.specs.Log.{namespace_after, IsLog, run, counted, log_of, CountsUp, AreLawful}
+use Rattle.nn_model.specs.Part.{has_name, part, rest, carried, names_in}
 
 -- what is due in the first namespace is due in the second
 abbrev pub KeepsDue : Namespace → Namespace → Type 0
@@ -119,3 +122,32 @@ in_profile profile n = record n { issued = record n.issued { profile = profile }
 abbrev pub LowerProfileGoesOn : Type 0
 LowerProfileGoesOn = (n : Namespace) (last : ℕ) (txs : List Tx) → IsLog n last txs →
     IsLog (in_profile One n) last txs × (in_profile One (namespace_after (in_profile One n) txs) ≡ in_profile One (namespace_after n txs))
+
+-- ---- Of the part of a namespace that a log is about.
+
+-- An edit whose paths' names are all among these does to the part what it does to the whole: it is refused alike, or leaves the part of what it leaves.
+abbrev pub EditOnThePart : Type 0
+EditOnThePart = (names : List (List ℕ)) (n : Namespace) (edit : Edit) → list_all (has_name names) (names_in edit) ≡ true → IsWellFormed n →
+    applied (part names n) edit ≡ result_map_both (part names) (λ fault. fault) (applied n edit)
+
+-- so does a log: it stops at the same transaction for the same reason, or leaves the part of what it leaves
+abbrev pub LogOnThePart : Type 0
+LogOnThePart =
+    (names : List (List ℕ)) (n : Namespace) (txs : List Tx) → list_all (has_name names) (flat_map (λ tx. names_in tx.edit) txs) ≡ true → IsWellFormed n →
+    run (part names n) txs ≡ result_map_both (part names) (λ stop. stop) (run n txs)
+
+-- an edit does nothing to the files of other names, but they go along with their directories
+abbrev pub RestGoesAlong : Type 0
+RestGoesAlong =
+    (names : List (List ℕ)) (n : Namespace) (edit : Edit) → list_all (has_name names) (names_in edit) ≡ true → IsWellFormed n → refusal n edit ≡ None →
+    rest names (effect n edit) ≡ carried (rest names n) edit
+
+-- nor does a log
+abbrev pub RestGoesAlongLog : Type 0
+RestGoesAlongLog =
+    (names : List (List ℕ)) (n : Namespace) (last : ℕ) (txs : List Tx) → list_all (has_name names) (flat_map (λ tx. names_in tx.edit) txs) ≡ true →
+    IsWellFormed n → IsLog n last txs → rest names (namespace_after n txs) ≡ fold (λ rows tx. carried rows tx.edit) (rest names n) txs
+
+-- the part of a well formed namespace is well formed
+abbrev pub PartIsWellFormed : Type 0
+PartIsWellFormed = (names : List (List ℕ)) (n : Namespace) → IsWellFormed n → IsWellFormed (part names n)

@@ -5,12 +5,14 @@ pub mod Touched
 pub mod Status
 pub mod WellFormed
 pub mod Log
+pub mod Part
 pub mod Laws
 pub mod NamespaceRows
 pub mod RefusalRows
 pub mod EffectRows
 pub mod LogRows
 pub mod WellFormedRows
+pub mod PartRows
 pub mod Lanes
 pub mod Items
 pub mod Held

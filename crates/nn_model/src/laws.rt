@@ -5,6 +5,7 @@ ghost use Rattle.nn_model.specs.Laws.{DueStays, BlocksStayWellFormed, StaysWellF
 ghost use Rattle.nn_model.specs.Laws.{TouchedTells, RowsAreTold, RowsShowBlocks, OnlyTouchedBecomeDue};
 ghost use Rattle.nn_model.specs.Laws.{LogKeepsWellFormed, LogKeepsBlocks, LogKeepsDue, NamespaceOfAppended, AppendedLog, LogRuns};
 ghost use Rattle.nn_model.specs.Laws.{LogCountsUp, OneMoreSegment, OldAddsNothing, GapAddsNothing, OverlapAddsTheRest, LowerProfileGoesOn};
+ghost use Rattle.nn_model.specs.Laws.{EditOnThePart, LogOnThePart, RestGoesAlong, RestGoesAlongLog, PartIsWellFormed};
 
 /// A message that is due is due after every edit that applies. So a standby never has to take a message back
 /// that it processed once the log had named its block.
@@ -84,4 +85,28 @@ pub fn segments_make_a_log()
 /// in the profile alone.
 pub fn a_lower_profile_goes_on()
     ensures { LowerProfileGoesOn }
+{}
+
+/// An edit does to the part of a namespace that has its names what it does to the whole. So an audit may give the
+/// program that part alone. The names are all of those in the edit's paths, and not the last ones alone: a file among the
+/// parents of a path refuses the edit, and has to be in the part.
+pub fn an_edit_on_the_part()
+    ensures { EditOnThePart }
+{}
+
+/// A log does to the part of a namespace that has its names what it does to the whole, and stops alike.
+pub fn a_log_on_the_part()
+    ensures { LogOnThePart }
+{}
+
+/// The rest, which are the files of other names, stays as it is, but for what its directories go through: it moves with
+/// them, and is deleted with them. So an audit may compare it image to image.
+pub fn the_rest_goes_along()
+    ensures edit { RestGoesAlong }
+    ensures log { RestGoesAlongLog }
+{}
+
+/// The part of a well formed namespace is well formed, so what is proved of those holds of it.
+pub fn the_part_is_well_formed()
+    ensures { PartIsWellFormed }
 {}

@@ -15,7 +15,8 @@ pub use history_laws::{
     stands_in_picture,
 };
 pub use laws::{
-    a_log_goes_on, a_log_keeps, a_log_runs, a_lower_profile_goes_on, blocks_stay_well_formed,
-    due_stays, equal_look_ups, only_touched_become_due, root_alone_is_well_formed,
-    segments_make_a_log, stays_well_formed, touched_tells,
+    a_log_goes_on, a_log_keeps, a_log_on_the_part, a_log_runs, a_lower_profile_goes_on,
+    an_edit_on_the_part, blocks_stay_well_formed, due_stays, equal_look_ups,
+    only_touched_become_due, root_alone_is_well_formed, segments_make_a_log, stays_well_formed,
+    the_part_is_well_formed, the_rest_goes_along, touched_tells,
 };

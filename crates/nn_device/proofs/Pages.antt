@@ -2,7 +2,7 @@
 use Rattle.std.proofs.Common.{◌≡◌, ◌<◌, ◌≤◌, ◌+◌, ℕ, suc, add-one, take, drop, get_or, length, Bool, true, false, List, [], ◌∷◌, ◌++◌, refl, sym, ap, ◌∙◌, subst, append-nil, append_assoc}
 use Rattle.std.specs.Prelude.{flat_map}
 use Rattle.std.proofs.Math.Seq.{drop-cons}
-use Rattle.std.proofs.lemmas.List.{drop_all, take_at, length-take-le, length-append}
+use Rattle.std.proofs.lemmas.List.{drop_all}
 use Rattle.nn_device.specs.Device.{Writer, Took}
 use Rattle.nn_device.specs.Page.{Page, TookAllBut, HasGone, HasPut, PutsPiece, PutsAllBut}
 use Rattle.nn_device.specs.Parts.{TookPrefix}
@@ -78,19 +78,10 @@ gone_on : (lost : Bool) (start now : Writer) (text left piece : List ℕ) → Ha
 gone_on false start now text left piece h = gathered_on start now text left piece h
 gone_on true start now text left piece h = lost_on start now text piece h
 
--- behind what is used of it
-put_behind : (used : ℕ) (items piece rest : List ℕ) → used ≤ length items → take (used + length piece) (take used items ++ (piece ++ rest)) ≡ take used items ++ piece
-put_behind used items piece rest within =
-    let front = take used items in
-    ap (take (used + length piece)) (sym (append_assoc front piece rest))
-    ∙ take_at (front ++ piece) rest (used + length piece) (length-append front piece ∙ ap (λ n. n + length piece) (length-take-le used items within))
-
-pub piece_put : (lost : Bool) (used : ℕ) (room items copied piece rest : List ℕ) (start now : Writer) (text : List ℕ) → used ≤ length room → items ≡ room → copied ≡ piece
-    → HasGone lost start text (take used room) now → HasGone lost start (text ++ piece) (take (used + length piece) (take used items ++ (copied ++ rest))) now
-piece_put lost used room items copied piece rest start now text within is copies h =
-    subst (λ l. HasGone lost start (text ++ piece) l now)
-    (sym (ap (λ c. take (used + length piece) (take used items ++ (c ++ rest))) copies ∙ ap (λ i. take (used + length piece) (take used i ++ (piece ++ rest))) is ∙ put_behind used room piece rest within))
-    (gone_on lost start now text (take used room) piece h)
+pub piece_filled : (lost : Bool) (used end : ℕ) (room items filled piece : List ℕ) (start now : Writer) (text : List ℕ) → items ≡ room → take end filled ≡ take used items ++ piece
+    → HasGone lost start text (take used room) now → HasGone lost start (text ++ piece) (take end filled) now
+piece_filled lost used end room items filled piece start now text is fills h =
+    subst (λ l. HasGone lost start (text ++ piece) l now) (ap (λ i. take used i ++ piece) (sym is) ∙ sym fills) (gone_on lost start now text (take used room) piece h)
 
 -- ---- A text of many pieces.
 

@@ -1,7 +1,7 @@
 //! A text that goes to a writer in large parts as it grows.
 //!
 //! The library's `BufWriter` would do, but its contract says nothing of what a failed write has left in the writer.
-ghost use Rattle.std.specs.Prelude.{◌≡◌, [], ◌∷◌, ℕ, List, length, false, true, OnOk, IfErr};
+ghost use Rattle.std.specs.Prelude.{◌≡◌, ◌≤◌, ◌+◌, [], ◌∷◌, ◌++◌, ℕ, List, length, take, false, true, OnOk, IfErr};
 ghost use Rattle.nn_device.specs.Device.{Writer as WriterView, Took};
 ghost use Rattle.nn_device.specs.Page.{HasPut, PutsPiece};
 ghost use Rattle.nn_device.specs.Parts.{TookPrefix};
@@ -62,9 +62,7 @@ impl Page {
             self.put_without_room(writer, piece);
             return;
         }
-        let end = self.used + piece.len();
-        self.room[self.used..end].copy_from_slice(piece);
-        self.used = end;
+        self.used = fill(&mut self.room, self.used, piece);
     }
 
     /// The next byte of the text, in fewer steps than a piece of one byte.
@@ -91,9 +89,7 @@ impl Page {
             self.write_piece(writer, piece);
             return;
         }
-        let end = self.used + piece.len();
-        self.room[self.used..end].copy_from_slice(piece);
-        self.used = end;
+        self.used = fill(&mut self.room, self.used, piece);
     }
 
     // Makes room for so many bytes: by more memory up to a part, then by writing what was gathered. There may be less of it.
@@ -107,7 +103,10 @@ impl Page {
             self.flush(writer);
             return;
         }
-        let wanted = (2 * self.room.len()).max(self.used + more).max(FIRST_ROOM).min(PART);
+        let wanted = (2 * self.room.len())
+            .max(self.used + more)
+            .max(FIRST_ROOM)
+            .min(PART);
         let _ = self.room.resize(wanted, 0);
     }
 
@@ -177,4 +176,17 @@ impl Page {
             self.lose();
         }
     }
+}
+
+// Copies a piece into a room, behind what is used of it. Returns how much is used then.
+#[inline(always)]
+fn fill(room: &mut [u8], used: usize, piece: &[u8]) -> usize
+    requires { used + length piece.now ≤ length room.old }
+    ensures used { result ≡ used + length piece.now }
+    ensures len { length room.new ≡ length room.old }
+    ensures filled { take result room.new ≡ take used room.old ++ piece.now }
+{
+    let end = used + piece.len();
+    room[used..end].copy_from_slice(piece);
+    end
 }

@@ -1,21 +1,15 @@
-use Rattle.std.proofs.Common.{List, ℕ, ap, sym, subst, take, drop, length, ◌+◌, ◌-◌, ◌++◌, ◌∙◌, append-nil}
+use Rattle.std.proofs.Common.{ap, sym, subst, take, length, ◌++◌, ◌∙◌, append-nil}
 use Rattle.std.proofs.lemmas.List.{with_items_is}
-use borrow.Rule.Slice.PartMut.{same_len_mid}
 use Rattle.nn_device.specs.Page.{HasGone, HasPut}
-use Rattle.nn_device.proofs.Pages.{piece_put}
+use Rattle.nn_device.proofs.Pages.{piece_filled}
 use Rattle.nn_device.proofs.page.Page.put_without_room.Goals as goal
 
 pub returns : goal.returns
 returns g c = λ start text h.
     let s = c.self.inside in
     let w = c.make_room.new.writer in
-    let piece = c.args.piece.now in
-    let old = c.deref_mut.result.now in
-    let copied = c.copy_from_slice.new.self in
-    let more = s.used + length piece - s.used in
-    let rest = drop more (drop s.used old) in
-    let same_len = same_len_mid s.used more old copied c.copy_from_slice.ensures.len ∙ ap length c.deref_mut.ensures.value ∙ sym s.room.ok.0 in
-    subst (λ items. HasGone s.lost start (text ++ piece) (take (s.used + length piece) items) w)
-    (sym (with_items_is s.room (take s.used old ++ (copied ++ rest)) same_len))
-    (piece_put s.lost s.used s.room.items old copied piece rest start w text c.self.invariant.0 c.deref_mut.ensures.value c.copy_from_slice.ensures.after
+    let fill = c.fill-self-inside in
+    let same_len = fill.ensures.len ∙ ap length c.deref_mut.ensures.value ∙ sym s.room.ok.0 in
+    subst (λ items. HasGone s.lost start (text ++ c.args.piece.now) (take fill.result items) w) (sym (with_items_is s.room fill.new.room same_len))
+    (piece_filled s.lost s.used fill.result s.room.items c.deref_mut.result.now fill.new.room c.args.piece.now start w text c.deref_mut.ensures.value fill.ensures.filled
     (subst (λ p. HasPut start text p w) (sym c.self.view_is) (subst (λ t. HasPut start t c.make_room.new.self w) (append-nil text) (c.make_room.ensures start text h))))

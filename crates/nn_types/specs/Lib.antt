@@ -3,6 +3,7 @@ pub mod Number
 pub mod Block
 pub mod Due
 pub mod Path
+pub mod Simple
 pub mod Fault
 pub mod Settings
 pub mod Profile

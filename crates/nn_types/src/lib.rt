@@ -17,6 +17,7 @@ mod profile;
 mod replica;
 mod report;
 mod settings;
+mod simple;
 mod status;
 mod tx;
 

@@ -2,11 +2,12 @@
 ghost use Rattle.std.specs.Prelude.{◌≡◌, ◌+◌, ◌≤◌, List, ℕ, length, drop, Some, None, IfOk, IfSome, IfNone, IsErrOf, true, false};
 ghost use Rattle.std.specs.List.{list_all, prefix_len};
 ghost use Rattle.nn_types.specs.Fault.{number_of};
-ghost use Rattle.nn_types.specs.Path.{is_name, is_name_byte, parts, path_of, path_text, IsPath, AreUtf8};
+ghost use Rattle.nn_types.specs.Path.{is_name, is_name_byte, parts, path_of, path_text, IsPath, AreUtf8, names_of_text};
 
 use crate::fault;
 use crate::limits::{MAX_NAME_LEN, MAX_NAMES, MAX_PATH_LEN};
 use crate::names::{Names, name_len};
+use crate::simple::is_simple;
 use std::alloc::{AllocError, AllocFailed, Global};
 use std::marker::Model;
 use thiserror::Error;
@@ -81,16 +82,7 @@ impl Path {
         // What spells a path is read.
         ensures bad { IsErrOf result PathFault.BadPath → path_of text.now ≡ None }
     {
-        if text.len() > MAX_PATH_LEN {
-            return Err(PathFault::BadPath);
-        }
-        let Some(rest) = text.strip_prefix('/') else {
-            return Err(PathFault::BadPath);
-        };
-        let Some(count) = count_names(rest.as_bytes()) else {
-            return Err(PathFault::BadPath);
-        };
-        if count > MAX_NAMES {
+        if !spells_path(text) {
             return Err(PathFault::BadPath);
         }
         let text = String::from_str(alloc, text)?;
@@ -125,6 +117,26 @@ pub fn one_spelling()
     ensures spells { (text : List ℕ) (names : List (List ℕ)) → path_of text ≡ Some names
         → IsPath names × (text ≡ path_text names) }
 {}
+
+// Whether a text is a path's.
+fn spells_path(text: &str) -> bool
+    ensures path { result ≡ true → path_of text.now ≡ Some (names_of_text text.now) }
+    ensures other { result ≡ false → path_of text.now ≡ None }
+{
+    if is_simple(text.as_bytes()) {
+        return true;
+    }
+    if text.len() > MAX_PATH_LEN {
+        return false;
+    }
+    let Some(rest) = text.strip_prefix('/') else {
+        return false;
+    };
+    let Some(count) = count_names(rest.as_bytes()) else {
+        return false;
+    };
+    count <= MAX_NAMES
+}
 
 // How many parts between slashes a text has, if each is a name. An empty text has none.
 fn count_names(text: &[u8]) -> Option<usize>

@@ -24,7 +24,7 @@ from cases import document, record, rename
 from chain import INODE_BYTES, OF_INODES, Chain
 from cluster import Cluster
 from formats import Refused, to_json
-from part_cases import WAYS, check_parts
+from part_cases import WAYS, by_parts, check_parts
 from progress import Progress
 from proved import Program
 from running import Running
@@ -130,7 +130,10 @@ def check_damages(trials):
     first = trials.image(trials.first)
     for name, damage, begin in DAMAGES:
         second = trials.image(trials.last, damage)
-        trials.audited(name, 1, begin, "--from", first, "--to", second, trials.whole)
+        output = trials.audited(name, 1, begin, "--from", first, "--to", second, trials.whole)
+        found = by_parts(trials, first, second, trials.whole)
+        is_left = found is None and begin.startswith("inconsistent ")
+        trials.check.holds(f"{name}, by parts", is_left or found == output, f"{found}\nwanted {output}")
     for name, change in HARMLESS:
         trials.audited(name, 0, "alike: ", "--from", first, "--to", trials.image(trials.last, change), trials.whole)
     length = replaced("<numBytes>41<", "<numBytes>40<")

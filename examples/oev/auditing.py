@@ -14,16 +14,17 @@ from collections import Counter
 from between import Converted
 from chain import Chain, Keeping, Link
 from checkpoint import name_section
-from comparison import Differences, compare
+from comparison import Blocks, Differences, compare
 from formats import PATH_NAMES, Refused, image_end
 from inodes import NONE
 from inodes_compared import InodesCompared, Ours, in_path_order
 from kept_part import NextState, PartOfKept, names_of_told
 from overlap import opened
-from part import is_sparse, names_between, txid_of
+from part import Part, Wider, is_sparse, names_between, txid_of
 from progress import Progress
 from proved import chunks_of
 from rest import NO_REST
+from rest_compared import Joining, beside, differing
 from running import Running
 from second import Given, Second
 from starts import FirstImage, KeptImage
@@ -35,24 +36,38 @@ from verdict import AsObject, Printed, Scope, Verdict
 # Where the lines of the part lie that the program printed.
 PART = "part"
 
+# So many passes are made with a part. Few files may join it in any case, and else one of so many of the rest.
+PASSES, FEW_JOINING, JOINING_PART = 4, 10_000, 4
+
 
 class Otherwise(Refused):
-    """An audit of a part does not find that all is the same. The whole says why."""
+    """An audit of a part can't tell what it finds. The whole says it."""
 
 
 def audited(program, folder, options):
-    """Audits by a part where that saves, and by the whole where the part does not say that all is the same."""
+    """Audits by a part where that saves, with what differs in it, and by the whole where a part can't tell all."""
     chain = Chain(options.state) if options.state else None
     if is_sparse(options, chain and chain.found()[0]):
         with contextlib.suppress(Refused):
-            return Audit(program, folder, options, chain, is_of_part=True).run()
+            return audited_by_parts(program, folder, options, chain)
     return Audit(program, folder, options, chain).run()
+
+
+def audited_by_parts(program, folder, options, chain):
+    """Audits by a part, and by a wider one as long as there is something that it can't tell."""
+    part = Part(None)
+    for _ in range(PASSES):
+        try:
+            return Audit(program, folder, options, chain, part).run()
+        except Wider as found:
+            part = found.part
+    raise Otherwise("the part grows and grows")
 
 
 class Audit:
     """One audit, by its options, with the program and a folder for its files."""
 
-    def __init__(self, program, folder, options, chain=None, is_of_part=False):
+    def __init__(self, program, folder, options, chain=None, part=None):
         self.program = program
         self.folder = folder
         self.options = options
@@ -74,14 +89,14 @@ class Audit:
         # The inodes that the log makes, and what was found of both images' inodes.
         self.our_inodes = self.inodes = self.tree = None
         self.is_whole = False
-        # The names that files of the part have, if there is a part.
-        self.names = self.names_of_part() if is_of_part else None
-        # What is compared by sums alone.
-        self.rest = NO_REST
+        # The part, if there is one. The first has no names yet.
+        self.part = part if part is None or part.names is not None else Part(self.names_of_part())
+        # What is compared by sums alone, and the blocks of what differs.
+        self.rest, self.blocks = NO_REST, None if part is None else Blocks()
 
     def run(self):
         """Tells what is found. Answers whether the second image is what the log makes of the first."""
-        self.second = Second(self.options.to, self.table, self.chain and self.chain.lock, self.names)
+        self.second = Second(self.options.to, self.table, self.chain and self.chain.lock, self.part)
         try:
             return self.judged()
         except Refused as reason:
@@ -112,13 +127,15 @@ class Audit:
         if contradiction is not None:
             self.differences.tell("inconsistent", contradiction)
         link = Link(start.link.first, facts.txid, start.link.audits + 1, start.link.cluster, in_order(log.bare), blocks=in_order(log.blocks), **self.table.members())
-        if self.names is not None and not (applies and contradiction is None):
-            raise Otherwise("the part has something to tell")
+        if self.part:
+            self.check_part(applies, facts, contradiction)
         if applies:
             self.compare_inodes(log, contradiction is None)
-            if self.names is not None:
+            if self.part and contradiction is None:
                 self.compare_rest(start)
             alike = self.compare(facts, given, link, contradiction is None)
+            if self.part:
+                self.check_blocks()
         if alike is not None and facts.low_inode is not None:
             self.differences.tell("inconsistent", facts.low_inode)
         if self.differences.left():
@@ -128,9 +145,7 @@ class Audit:
             behind.append(str(link if applies else start.link))
         scope = None if alike is None else self.scope(alike, facts, given, log)
         verdict = Verdict(start.link.txid, facts.txid, applies, self.differences.summary(), scope)
-        if self.names is not None and not verdict.is_same:
-            raise Otherwise(verdict.line())
-        if self.names is not None and self.chain is not None:
+        if self.part and self.chain is not None:
             self.keep_part(start, link)
         self.output.end(verdict, behind)
         return verdict.is_same
@@ -182,10 +197,10 @@ class Audit:
             if self.options.start:
                 raise Refused(f"{self.chain.name} goes on from TXID {self.link.txid}, and --from is for the first audit alone")
             kept = self.link, self.chain.name, self.place, self.table
-            return KeptImage(*kept) if self.names is None else PartOfKept(*kept, self.names)
+            return KeptImage(*kept) if self.part is None else PartOfKept(*kept, self.part)
         if not self.options.start:
             raise Refused("--from FROM has to name the image that the log goes on from")
-        return FirstImage(self.options.start, self.table, self.progress.open, self.names)
+        return FirstImage(self.options.start, self.table, self.progress.open, self.part)
 
     def give(self, start, last_gen=0):
         """Gives the program the image that the log goes on from, by a table that has all of its names."""
@@ -252,7 +267,7 @@ class Audit:
 
         Answers how many directories, files and blocks are alike, and tells what differs, if the second image is whole.
         """
-        keeping = self.keeping(link) if self.chain and self.names is None else None
+        keeping = self.keeping(link) if self.chain and self.part is None else None
         try:
             task = self.progress.task("comparing the images", given.size)
             ours = self.pieces_of_ours(keeping)
@@ -264,7 +279,7 @@ class Audit:
                     task.add(len(piece))
                     return piece
 
-                alike = compare(ours, theirs, self.differences)
+                alike = compare(ours, theirs, self.differences, self.blocks)
             else:
                 alike = None
                 while keeping and ours():
@@ -278,6 +293,14 @@ class Audit:
             if keeping:
                 keeping.drop()
 
+    def check_part(self, applies, facts, contradiction):
+        """Sees to it that the part can tell what it finds.
+
+        How the second image contradicts itself is found in the part alone, but for what is seen while it is read.
+        """
+        if not applies or contradiction is not None and (self.chain or facts.contradiction is None):
+            raise Otherwise("the part has something to tell")
+
     def compare_inodes(self, log, is_whole):
         """Compares where inodes are, and their attributes, if both are known."""
         self.tree, self.is_whole = log.tree, is_whole
@@ -290,13 +313,34 @@ class Audit:
             self.our_inodes.look(lambda paths: [NONE] * len(paths))
 
     def compare_rest(self, start):
-        """Compares by sums what is not in the part of either image."""
+        """Compares by sums what is not in the part of either image. What can't be told so joins the part.
+
+        Those are files that differ, and all of a directory that has such ones, or that stands elsewhere in the second
+        image, or has something there that stood elsewhere: what is told of names and their order is told of all then.
+        """
         gone = bytearray(len(start.dump.inodes))
         for row in self.our_inodes.gone_rows:
             gone[row] = True
         self.rest = start.dump.sums_of_rest(gone, lambda: self.progress.open(self.options.start))
-        if self.rest != self.second.sums_of_rest():
+        theirs, moved = self.second.sums_of_rest(), self.inodes.placed_otherwise()
+        if self.rest == theirs and not moved:
+            return
+        joining = differing(start.rest, self.second) if self.rest != theirs else Joining(set(), set())
+        joining.directories.update(entry.directory for entry in moved)
+        joining.directories.update(self.second.directories_below([entry.id for entry in moved]))
+        ids = self.part.ids.union(beside(start.rest, joining), self.second.beside(joining))
+        if len(ids) > max(FEW_JOINING, self.rest.files // JOINING_PART) or len(ids) == len(self.part.ids) and self.rest != theirs:
             raise Otherwise("the rest of the images differs")
+        if len(ids) > len(self.part.ids):
+            raise Wider(self.part._replace(ids=ids))
+
+    def check_blocks(self):
+        """Sees to it that no block that the second image has otherwise is one of the rest, too."""
+        new = self.blocks.new()
+        if new and not self.part.with_blocks:
+            raise Wider(self.part._replace(with_blocks=True))
+        if new and self.second.has_block_in_rest(new):
+            raise Otherwise("a block may be in two files")
 
     def keeping(self, link):
         """What keeps the state of a chain, with the inodes that the log makes, or else those of the second image."""
@@ -310,6 +354,8 @@ class Audit:
     def pieces_of_ours(self, keeping):
         """What answers the next lines of what the log makes, which are kept."""
         if not keeping:
+            with contextlib.suppress(FileNotFoundError):
+                os.remove(os.path.join(self.folder, PART))
             return self.piece_of_ours
         keeping.write(self.ours.first)
 
@@ -388,7 +434,7 @@ class Audit:
             self.notes.append(f"taken on trust into the chain: attributes of {found.trusted:,} inodes, which no record tells")
         others = Counter({what: int(count) for what, count in others.items() if count})
         inodes = found.count + self.rest.files if found else 0
-        return Scope(alike, bare, inodes, left, others, self.rest.files if self.names is not None else None)
+        return Scope(alike, bare, inodes, left, others, self.rest.files if self.part else None)
 
 
 def in_order(kinds):

@@ -35,7 +35,7 @@ TAKEN = {
 class Checkpoint(Dump):
     """An image of a real cluster."""
 
-    def __init__(self, table, names=None):
+    def __init__(self, table, part=None):
         super().__init__()
         self.table = table
         self.check_name = table.check_name
@@ -57,8 +57,8 @@ class Checkpoint(Dump):
         # How many paths lie below those of as many names as there may be. They are left out.
         self.too_deep = {}
         self.sets = Sets()
-        # The files that have none of these names, if there are any names: they are summed, and not in the arrays.
-        self.rest = None if names is None else Rest(names, self.sets)
+        # The files that are not in the part, if there is one: they are summed, and not in the arrays.
+        self.rest = None if part is None else Rest(part, self.sets)
         if self.rest is not None:
             self.inodes = Sifted(self.rest)
             self.children = SiftedLists(self.inodes)
@@ -317,12 +317,12 @@ def sums_again(dump, out, opened):
     return again.inodes.sums
 
 
-def read_image(name, table, opened, names=None):
+def read_image(name, table, opened, part=None):
     """An image, and how it contradicts itself, or None. `opened` opens its file.
 
-    With names it has only directories and files of these names, and sums of the rest.
+    With a part it has only directories and the files that are in that, and sums of the rest.
     """
-    dump = Checkpoint(table, names)
+    dump = Checkpoint(table, part)
     try:
         with opened(name) as file:
             dump.read(file)

@@ -127,15 +127,33 @@ class Alone:
         self.top, self.below = None, 0
 
 
-def compare(ours, theirs, differences):
+class Blocks:
+    """The ids of the blocks in the lines that differ, of both texts."""
+
+    def __init__(self):
+        self.ids = set(), set()
+
+    def take(self, *lines):
+        for ids, line in zip(self.ids, lines):
+            ids.update(block.id for block in (line and line.row.blocks) or ())
+
+    def new(self):
+        """Those that the second text has alone."""
+        return self.ids[1] - self.ids[0]
+
+
+def compare(ours, theirs, differences, blocks=None):
     """Tells how two texts differ, path by path. Answers how many directories, files and blocks are alike.
 
-    Both are functions that answer the next whole lines of a text, and nothing behind all.
+    Both are functions that answer the next whole lines of a text, and nothing behind all. The blocks of lines that differ
+    are noted, if that is wanted.
     """
     alike = Counter()
     held, other_held = alike_pieces(ours, theirs, alike)
     missing, extra = Alone("missing", differences), Alone("extra", differences)
     for one, other in merged(lines_of(held, ours), lines_of(other_held, theirs)):
+        if blocks and not (one and other and one.text == other.text):
+            blocks.take(one, other)
         if other is None:
             missing.take(one.row)
         elif one is None:

@@ -164,6 +164,12 @@ class RowsOfIds:
         repeated = [self.rows[at + 1] for at, pair in enumerate(zip(self.ids, islice(self.ids, 1, None))) if pair[0] == pair[1]]
         self.repeated = min(repeated, default=None)
 
+    def pairs(self):
+        """Each id with its row, in the order of the ids."""
+        if self.rows is None:
+            return ((inode_id, row) for inode_id, row in enumerate(self.table, self.low) if row != NONE)
+        return zip(self.ids, self.rows)
+
     def of(self, wanted):
         """The row of each of these ids, or NONE."""
         if self.rows is None:

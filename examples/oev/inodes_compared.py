@@ -199,7 +199,9 @@ class InodesCompared:
         if buckets:
             ones, others = self.ours.all.of_buckets(buckets), self.second.of_buckets(buckets)
             for inode_id in sorted(ones.keys() | others.keys()):
-                self.take(ones.get(inode_id), others.get(inode_id))
+                # What is the same in all was not looked at.
+                if ones.get(inode_id) != others.get(inode_id):
+                    self.take(ones.get(inode_id), others.get(inode_id))
 
     def take(self, one, other):
         """Compares two entries of one id, of which one may be None."""
@@ -208,6 +210,10 @@ class InodesCompared:
         if one and other and one[:3] == other[:3] and not list(self.differing_in(one.attributes, other.attributes, self.open_keys)):
             return
         self.differing.append((one, other))
+
+    def placed_otherwise(self):
+        """What the second image has in another place, or alone."""
+        return [other for one, other in self.differing if other and (one is None or one[:3] != other[:3])]
 
     def tell(self, differences):
         """Tells what differs, but below a path of too many names, where records are left out."""

@@ -38,11 +38,12 @@ def names_of_told(link, table):
 class PartOfKept(KeptImage):
     """The part of the image that a chain keeps."""
 
-    def __init__(self, link, name, place, table, names):
+    def __init__(self, link, name, place, table, part):
         super().__init__(link, name, place, table)
         if self.sets is None or self.has_grown():
             raise Refused("the state has no inodes, or its names grew")
-        self.dump = KeptPart(self, names)
+        # The rest lies beside the part.
+        self.dump = self.rest = KeptPart(self, part)
         if self.dump.deep:
             raise Refused("a path may have too many names")
 
@@ -68,16 +69,18 @@ class PartOfKept(KeptImage):
 class KeptPart(Kept):
     """The part in arrays. Of the rest: sums, and of each file its id, the number of its set, and where its line is."""
 
-    def __init__(self, start, names):
+    def __init__(self, start, part):
         self.link = start.link
         self.table = start.table
-        self.names = names
+        self.part = part
         # The lines of the part, and the paths of its bare files.
         self.lines, self.bare_in_part = [], set()
         self.sums, self.attributes = Sums(), Attributes(start.sets)
         words = start.table.words.items()
         self.replication_of = {number: int(word) if word.isdigit() else NO_REPLICATION for number, word in words}
         self.ids, self.sets, self.offsets = array("q"), array("I"), array("q")
+        # The first words of the sums of these files, and whether each row is of a directory that is gone.
+        self.words, self.is_gone = array("I"), ()
         # Which files of the rest are in each directory, by its row, in the order of their lines.
         self.rest_in = {}
         self.odd = set()
@@ -107,7 +110,7 @@ class KeptPart(Kept):
         ids, sets = (column[self.taken : self.taken + len(rows)] for column in (self.all_ids, self.all_sets))
         self.taken += len(rows)
         columns = Columns(ids, full, kinds, array("q", [int(number or 0) for number in replications]), blocks, list(accumulate(counts)), None)
-        mine = [kind != DIRECTORY and name not in self.names for kind, name in zip(kinds, full)]
+        mine = self.part.marks_of_rest(columns)
         self.place(rows, mine, kinds, full, lines.split(b"\n"), ids, sets)
         self.add_part(columns, names, sets, [at for at, is_mine in enumerate(mine) if not is_mine])
         self.add_rest(columns, paths, names, sets, mine)
@@ -150,13 +153,20 @@ class KeptPart(Kept):
         """Sums what is of the rest, and notes which bare files are in the part."""
         replications = [self.replication_of.get(number, number) for number in columns.replications]
         plain = [is_mine and replication != NO_REPLICATION for is_mine, replication in zip(mine, replications)]
-        self.sums.take_columns(columns._replace(replications=replications), self.attributes.of(sets), plain)
-        for at in range(len(mine)) if self.link.bare else ():
+        words = self.sums.take_columns(columns._replace(replications=replications), self.attributes.of(sets), plain)
+        if not self.link.bare:
+            self.words.extend(words)
+            return
+        words = iter(words)
+        for at in range(len(mine)):
             path = f"{paths[at].decode()}/{names[at].decode()}"
             if path in self.link.bare and not mine[at]:
                 self.bare_in_part.add(path)
-            elif mine[at] and not plain[at]:
-                self.sums.take((columns.ids[at], columns.names[at], BARE, 0), self.blocks_of(path), *self.attributes.of([sets[at]]), self.link.bare[path])
+            elif plain[at]:
+                self.words.append(next(words))
+            elif mine[at]:
+                inode = columns.ids[at], columns.names[at], BARE, 0
+                self.words.append(self.sums.take(inode, self.blocks_of(path), *self.attributes.of([sets[at]]), self.link.bare[path]))
 
     def blocks_of(self, path):
         if path not in self.link.blocks:
@@ -167,15 +177,27 @@ class KeptPart(Kept):
 
     def sums_of_rest(self, is_gone, _opened):
         """The sums of the rest, but for what is in directories that are gone, by the rows of these."""
+        self.is_gone = is_gone
         sums, reader = Sums(*self.sums.members()), self.reader()
         for row, places in self.rest_in.items():
-            if is_gone[row]:
-                for place in places:
-                    sums.take_away(self.sums_of_line(reader.line(self.offsets[place]), place))
-            else:
-                numbers = array("q", [self.inodes.ids[row], *(self.ids[place] for place in self.in_order_of_image(row, places, reader))])
-                sums.take_list(digest_of(numbers.tobytes()))
+            for place in places if is_gone[row] else ():
+                sums.take_away(self.sums_of_line(reader.line(self.offsets[place]), place))
+        sums.add(b"".join([digest for _, digest in self.listed()]))
         return sums.members()
+
+    def files(self):
+        """Of each file that is not gone: its id, the first word of its sum, and the id of its directory."""
+        for row, places in self.rest_in.items():
+            if not self.is_gone[row]:
+                yield from ((self.ids[place], self.words[place], self.inodes.ids[row]) for place in places)
+
+    def listed(self):
+        """The id of each directory that has such files, and the sum of its list."""
+        reader = self.reader()
+        for row, places in self.rest_in.items():
+            if not self.is_gone[row]:
+                numbers = array("q", [self.inodes.ids[row], *(self.ids[place] for place in self.in_order_of_image(row, places, reader))])
+                yield self.inodes.ids[row], digest_of(numbers.tobytes())
 
     def in_order_of_image(self, row, places, reader):
         """The files of a directory in the order in which an image lists them."""

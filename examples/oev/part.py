@@ -2,11 +2,12 @@
 
 An edit does to such a part what it does to the whole. So only the part goes through the program, and the rest of both
 images is compared by sums. For that all names of a path count, and not the last one alone: a file that stands among the
-parents of a path has to be in the part.
+parents of a path has to be in the part. Where sums differ, one more pass has in the part what differs, and tells it.
 """
 import contextlib
 import os
 import stat
+from typing import NamedTuple
 
 import overlap
 from attributes import SETTING
@@ -16,6 +17,7 @@ from dumps import unescaped
 from edits import LEFT_OUT, SNAPSHOTS
 from formats import Refused
 from forms import PATHS, WANTED, CommonRecord
+from inodes import DIRECTORY
 from overlap import merged
 
 # The opcodes of records that ask for no path, and one that has paths in a member of a member.
@@ -24,6 +26,32 @@ WITH_MORE_PATHS = "OP_CONCAT_DELETE"
 
 # An image of fewer bytes, or a log of more than one part in so many of these, leaves little to be saved.
 LEAST_IMAGE, LOG_PART = 8_000_000, 4
+
+
+class Part(NamedTuple):
+    """Which files are in the part: those of some names, as bytes, and those of some ids, which joined it."""
+
+    names: set
+    ids: frozenset = frozenset()
+    # Whether the ids of the blocks of the rest are wanted too.
+    with_blocks: bool = False
+
+    def has(self, inode_id, name):
+        return name in self.names or inode_id in self.ids
+
+    def marks_of_rest(self, columns):
+        """Of each of many inodes whether it is in the rest."""
+        names, ids = self.names, self.ids
+        mine = [kind != DIRECTORY and name not in names for kind, name in zip(columns.kinds, columns.names)]
+        return [is_mine and inode_id not in ids for is_mine, inode_id in zip(mine, columns.ids)] if ids else mine
+
+
+class Wider(Exception):
+    """A pass that can't tell all that differs: one more is to be made, with this part."""
+
+    def __init__(self, part):
+        super().__init__()
+        self.part = part
 
 
 def is_sparse(options, link):

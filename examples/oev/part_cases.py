@@ -1,13 +1,20 @@
 """Trials of audits by a part: what no record names is compared by sums, and both ways say the same."""
+import contextlib
+import io
 import json
 import os
 import re
 import shutil
+import tempfile
 from array import array
+from types import SimpleNamespace
 
 from audit_damages import in_inode, replaced, several, without_inode, written
+from auditing import audited_by_parts
 from cases import record
 from cluster import Cluster
+from formats import Refused
+from proved import Program
 
 WAYS_TO_GO = "--sparse", "--whole"
 WAYS = re.compile(r"; files through the program: ([0-9,]+), by sums: ([0-9,]+)$", re.MULTILINE)
@@ -33,6 +40,8 @@ class Warehouse:
         cluster.close(self.striped, 5)
         self.open = cluster.create(self.table, "open")
         cluster.add_block(self.open)
+        self.deleted = written(cluster, self.table, "deleted", 7)
+        cluster.delete(self.deleted)
         self.first = cluster.txid
 
     def end(self):
@@ -120,7 +129,43 @@ DAMAGES = [
     ("a file of another kind", in_inode("striped", "<erasureCodingPolicyId>1</erasureCodingPolicyId><blockType>STRIPED</blockType>", ""), 'kind "/table/striped" striped old\n'),
     ("another name", in_inode("three-z", "three-z", "three-zz"), 'extra "/table/three/three-zz" file\n'),
     ("a file that is lost", lambda text: without_inode("three-z")(without_child("three-z")(text)), 'missing "/table/three/three-z" file\n'),
+    ("a file in another directory", lambda text: shifted(text, "two-x", "one-z"), 'moved "/table/two/two-x" "/table/one/two-x"\n'),
+    ("a directory in another directory", lambda text: shifted(text, "two", "one-z"), 'missing "/table/two" directory and 3 below\n'),
+    ("another name of a directory", in_inode("two", ">two<", ">twp<"), 'extra "/table/twp" directory and 3 below\n'),
+    ("a directory that is lost with its files", lambda text: lost(text, "two", "two-x", "two-y", "two-z"), 'missing "/table/two" directory and 3 below\n'),
+    ("the ids of two files", lambda text: exchanged(text, "one-z", "two-x"), 'moved "/table/one/one-z" "/table/two/one-z"\n'),
+    ("a name out of order", in_inode("two-y", ">two-y<", ">two-zz<"), "inconsistent "),
+    ("a name that another one has", in_inode("two-y", ">two-y<", ">two-z<"), "inconsistent "),
+    ("a block that another file has", lambda text: with_block_of(text, "two-y", "three-y"), "inconsistent block "),
+    ("a block that a deleted file had", in_inode("two-y", "<id>1073741834<", "<id>1073741844<"), 'block "/table/two/two-y" 1 '),
 ]
+
+
+def shifted(text, name, beside):
+    """A damage that takes a node behind another one, which may be in another directory."""
+    child = f"<child>{id_of(text, name)}</child>"
+    return replaced(f"<child>{id_of(text, beside)}</child>", f"<child>{id_of(text, beside)}</child>{child}")(text.replace(child, ""))
+
+
+def lost(text, *names):
+    """A damage that takes out a directory with its files."""
+    text = re.sub(f"<directory><parent>{id_of(text, names[0])}</parent>.*?</directory>", "", text)
+    for name in names:
+        text = re.sub(f"<child>{id_of(text, name)}</child>", "", text)
+        text = without_inode(name)(text)
+    return text
+
+
+def exchanged(text, one, other):
+    """A damage that gives two files one another's ids, where the inodes stand."""
+    ids = id_of(text, one), id_of(text, other)
+    return several(*(replaced(f"<inode><id>{of}<", f"<inode><id>{to}<") for of, to in zip((*ids, "x"), ("x", ids[0], ids[1]))))(text)
+
+
+def with_block_of(text, name, other):
+    """A damage that gives a file the first block of another one in place of its own."""
+    blocks = [re.search(f"<name>{of}<.*?<block><id>([0-9]+)<", text)[1] for of in (name, other)]
+    return in_inode(name, f"<id>{blocks[0]}<", f"<id>{blocks[1]}<")(text)
 
 
 def without_child(name):
@@ -172,12 +217,23 @@ def check_parts(trials):
 
 
 def check_damages_of_rest(trials):
+    """A wider part tells each damage, but where an image contradicts itself."""
     story = quiet()
     first, log = trials.check.file(story.cluster.images[story.first]), log_of(trials, story)
     for name, damage, told in DAMAGES:
         second = trials.check.file(damage(story.cluster.images[story.cluster.txid]))
         output = both_ways(trials, f"{name} of what no record names", 1, None, "--from", first, "--to", second, log)
         trials.check.contains(f"what is told of {name}", output, told)
+        trials.check.same(f"{name} by parts alone", by_parts(trials, first, second, log), None if told.startswith("inconsistent ") else output)
+
+
+def by_parts(trials, first, second, log):
+    """What an audit says without the whole, or None where it leaves all to that."""
+    options = SimpleNamespace(start=first, to=second, files=[log], state=None, most=100, json=False, quiet=True, progress=None, strict=False)
+    output = io.StringIO()
+    with contextlib.redirect_stdout(output), tempfile.TemporaryDirectory() as folder, contextlib.suppress(Refused):
+        audited_by_parts(Program(trials.check.program), folder, options, None)
+    return output.getvalue() or None
 
 
 def check_left_behind(trials):

@@ -1,8 +1,9 @@
 """The rest of an image: the files whose names no record of a log has. They are compared image to image, by sums.
 
 A log does nothing to such a file, unless a record deletes a directory above it. So only the others, and all directories,
-go through the program. Of the rest no more is kept than where each file is listed. What is odd there is Refused, and then
-the whole of both images goes through the program.
+go through the program. Of the rest no more is kept than where each file is listed, and the first word of its own sum, by
+which `differing` finds the files that differ. What is odd there is Refused, and then the whole of both images goes
+through the program.
 """
 import struct
 from array import array
@@ -14,13 +15,13 @@ from formats import Refused, to_json
 from inodes import BARE, DIRECTORY, NONE, Inodes, Lists, RowsOfIds
 
 SUM_BYTES = 16
+SUM_WORDS = SUM_BYTES // array("I").itemsize
+LONG_BITS = 64
 MODULUS = 1 << 8 * SUM_BYTES
 # The id, the replication, the kind, how many numbers the blocks have, and the bytes of the name.
 HEAD = struct.Struct("<qqBQQ")
 NUMBER_BYTES = array("q").itemsize
 BLOCK_BYTES = 3 * NUMBER_BYTES
-
-number_of = int.from_bytes
 
 
 class Total(NamedTuple):
@@ -48,30 +49,42 @@ class Sums:
         return Total(self.total % MODULUS, self.files, self.bare, self.blocks)
 
     def take(self, inode, numbers, attributes, kind_of_bare):
-        """Takes a file: its id, its name, its kind and its replication, its blocks, the sum of its attributes."""
+        """Takes a file: its id, its name, its kind and its replication, its blocks, the sum of its attributes.
+
+        Answers the first word of its sum.
+        """
         inode_id, name, kind, replication = inode
         blocks = array("q", numbers).tobytes()
         head = HEAD.pack(inode_id, replication, kind, len(blocks), len(name))
-        self.total += number_of(digest_of(b"".join((head, attributes, name, blocks, kind_of_bare.encode()))), "little")
+        digest = digest_of(b"".join((head, attributes, name, blocks, kind_of_bare.encode())))
+        self.add(digest)
         self.files += 1
         self.bare += kind == BARE
         # The program has no blocks of bare files.
         self.blocks += 0 if kind == BARE else len(blocks) // BLOCK_BYTES
+        return words_of(digest)[0]
 
     def take_columns(self, columns, attributes, mine):
-        """Takes those of many inodes that are marked, with the sums of the attributes of all. None of them is bare."""
+        """Takes those of many inodes that are marked, with the sums of the attributes of all. None of them is bare.
+
+        Answers the first words of their sums.
+        """
         listed, begins = columns.blocks.tobytes(), chain((0,), columns.block_ends)
         blocks = [listed[NUMBER_BYTES * begin : NUMBER_BYTES * end] for begin, end in compress(zip(begins, columns.block_ends), mine)]
         names = list(compress(columns.names, mine))
         numbers = (compress(column, mine) for column in (columns.ids, columns.replications, columns.kinds))
         heads = map(HEAD.pack, *numbers, map(len, blocks), map(len, names))
         texts = map(b"".join, zip(heads, compress(attributes, mine), names, blocks))
-        self.total += sum([number_of(blake2b(text, digest_size=SUM_BYTES).digest(), "little") for text in texts])
+        digests = b"".join([blake2b(text, digest_size=SUM_BYTES).digest() for text in texts])
+        self.add(digests)
         self.files += len(names)
         self.blocks += sum(map(len, blocks)) // BLOCK_BYTES
+        return words_of(digests)
 
-    def take_list(self, digest):
-        self.total += number_of(digest, "little")
+    def add(self, digests):
+        """Adds digests that stand one behind the other."""
+        halves = array("Q", digests)
+        self.total += sum(halves[0::2]) + (sum(halves[1::2]) << LONG_BITS)
 
     def take_away(self, other):
         self.total -= other.total
@@ -95,19 +108,24 @@ class Attributes:
 
 
 class Rest:
-    """The rest of one image, by the names that the log has, as bytes."""
+    """The rest of one image: what is not in a part."""
 
-    def __init__(self, names, sets):
-        self.names = names
+    def __init__(self, part, sets):
+        self.part = part
         self.attributes = Attributes(sets)
         self.sums = Sums()
         self.replications, self.kinds_of_bare = set(), set()
         # The ids of the files, and behind them the row of each, and the list that has each row, or NONE.
         self.ids = array("q")
         self.rows, self.lists = None, array("i")
+        # The first word of the sum of each, and the ids of all their blocks, if these are wanted.
+        self.words = array("I")
+        self.blocks = array("q") if part.with_blocks else None
         self.greatest = 0
         # Of each list the id of its directory, how many of these files it has, and the sum of their ids in order.
         self.owners, self.counts, self.digests = array("q"), array("Q"), []
+        # Whether each list is out, once what is left was asked for.
+        self.is_out = ()
         # The rows of the directories in the part, and how many of these files each row of the part has.
         self.owner_rows, self.count_at = (), ()
 
@@ -117,14 +135,19 @@ class Rest:
         self.note([inode_id], () if kind == BARE else [replication])
         if kind == BARE:
             self.kinds_of_bare.add(kind_of_bare)
-        self.sums.take((inode_id, name, kind, replication), numbers, *self.attributes.of([attributes]), kind_of_bare)
+        self.words.append(self.sums.take((inode_id, name, kind, replication), numbers, *self.attributes.of([attributes]), kind_of_bare))
+        if self.blocks is not None and kind != BARE:
+            self.blocks.extend(array("q", numbers)[1::3])
 
     def take_columns(self, columns, sets):
         """Takes those of many inodes that are of the rest. Answers the places of the others."""
-        names = self.names
-        mine = [kind != DIRECTORY and name not in names for kind, name in zip(columns.kinds, columns.names)]
+        mine = self.part.marks_of_rest(columns)
         self.note(compress(columns.ids, mine), compress(columns.replications, mine))
-        self.sums.take_columns(columns, self.attributes.of(sets), mine)
+        self.words.extend(self.sums.take_columns(columns, self.attributes.of(sets), mine))
+        if self.blocks is not None:
+            begins = chain((0,), columns.block_ends)
+            for begin, end in compress(zip(begins, columns.block_ends), mine):
+                self.blocks.extend(columns.blocks[begin + 1 : end : 3])
         return [at for at, is_mine in enumerate(mine) if not is_mine]
 
     def note(self, ids, replications):
@@ -205,13 +228,31 @@ class Rest:
 
     def left(self, out, away):
         """The sums without what these lists have. `away` answers the sums of files that are out, of which there are some."""
+        self.is_out = out
         sums = Sums(*self.sums.members())
-        for digest, is_out in zip(self.digests, out):
-            if not is_out:
-                sums.take_list(digest)
+        sums.add(b"".join([digest for _, digest in self.listed()]))
         if self.count_out(out):
             sums.take_away(away(out))
         return sums.members()
+
+
+    # ---- What finds the files that differ.
+
+    def files(self):
+        """Of each file that is not out: its id, the first word of its sum, and the id of its directory."""
+        lists, words, owners, is_out = self.lists, self.words, self.owners, self.is_out
+        for inode_id, row in self.rows.pairs():
+            place = lists[row]
+            if place != NONE and not is_out[place]:
+                yield inode_id, words[row], owners[place]
+
+    def listed(self):
+        """The id of each directory that has such files, and the sum of its list."""
+        return ((owner, digest) for owner, digest, is_out in zip(self.owners, self.digests, self.is_out) if not is_out)
+
+    def has_block(self, ids):
+        """Whether a file of the rest has one of these blocks. Bare files count as without."""
+        return not ids.isdisjoint(self.blocks)
 
 
 class Sifted(Inodes):
@@ -221,17 +262,17 @@ class Sifted(Inodes):
         super().__init__()
         self.rest = rest
 
-    def is_kept(self, name, kind):
-        return kind == DIRECTORY or name in self.rest.names
+    def is_kept(self, inode_id, name, kind):
+        return kind == DIRECTORY or self.rest.part.has(inode_id, name)
 
     def add(self, inode_id, name, kind, replication=0, numbers=(), attributes=0):
-        if self.is_kept(name, kind):
+        if self.is_kept(inode_id, name, kind):
             super().add(inode_id, name, kind, replication, numbers, attributes)
         else:
             self.rest.take(inode_id, name, kind, replication, numbers, attributes)
 
     def add_bare(self, inode_id, name, file, attributes):
-        if self.is_kept(name, BARE):
+        if self.is_kept(inode_id, name, BARE):
             super().add_bare(inode_id, name, file, attributes)
         else:
             self.rest.take(inode_id, name, BARE, file.replication, file.blocks.read, attributes, file.blocks.kind)
@@ -300,3 +341,8 @@ class Again(Inodes):
 
 def digest_of(data):
     return blake2b(data, digest_size=SUM_BYTES).digest()
+
+
+def words_of(digests):
+    """The first words of digests that stand one behind the other."""
+    return array("I", digests)[::SUM_WORDS]

@@ -15,6 +15,7 @@ from multiprocessing import Pipe
 from multiprocessing.reduction import recv_handle, send_handle
 from typing import NamedTuple, Optional
 
+import rest_compared
 from bare import word_of
 from checkpoint import give_image, pieces_of, read_image
 from formats import Refused
@@ -62,7 +63,7 @@ class Given(NamedTuple):
 class Second:
     """The process that has the second image, as the audit sees it."""
 
-    def __init__(self, name, table, lock, names=None):
+    def __init__(self, name, table, lock, part=None):
         self.name = name
         self.shared = mmap.mmap(-1, PLACE.size)
         self.channel, other = Pipe()
@@ -74,7 +75,7 @@ class Second:
                 if lock is not None:
                     lock.close()
                 signal.signal(signal.SIGINT, signal.SIG_DFL)
-                Side(name, table, other, self.shared, names).serve()
+                Side(name, table, other, self.shared, part).serve()
                 status = 0
             finally:
                 os._exit(status)
@@ -127,6 +128,26 @@ class Second:
     def sums_of_rest(self):
         """The sums of what is not in the part that was read."""
         return self.asked("sums_of_rest")
+
+    def buckets_of_rest(self):
+        """The words of the rest's files and lists, added in buckets."""
+        return self.asked("buckets_of_rest")
+
+    def marks_of_rest(self, buckets):
+        """The files and the lists of the rest in these buckets, each with its mark."""
+        return self.asked("marks_of_rest", buckets)
+
+    def beside(self, joining):
+        """The ids of the files of the rest that have to join the part with these."""
+        return self.asked("beside", joining)
+
+    def directories_below(self, ids):
+        """The ids of those of these inodes that are directories, and of all directories below them."""
+        return self.asked("directories_below", ids)
+
+    def has_block_in_rest(self, ids):
+        """Whether a file of the rest has one of these blocks."""
+        return self.asked("has_block_in_rest", ids)
 
     def asked(self, *words):
         with self.while_there():
@@ -187,12 +208,12 @@ class Noted:
 class Side:
     """The process itself."""
 
-    def __init__(self, name, table, channel, shared, names=None):
+    def __init__(self, name, table, channel, shared, part=None):
         self.name = name
         self.table = Table(table.full, table.replications)
         self.channel = channel
         self.shared = shared
-        self.names = names
+        self.part = part
         self.dump = None
 
     def serve(self):
@@ -221,7 +242,7 @@ class Side:
         return Noted(name, self.note)
 
     def read(self):
-        self.dump, contradiction = read_image(self.name, self.table, self.opened, self.names)
+        self.dump, contradiction = read_image(self.name, self.table, self.opened, self.part)
         dump = self.dump
         if dump.numbers is None:
             return Facts(contradiction, False)
@@ -294,6 +315,21 @@ class Side:
 
     def sums_of_rest(self):
         return self.dump.sums_of_rest(bytes(len(self.dump.inodes)), lambda: self.opened(self.name))
+
+    def buckets_of_rest(self):
+        return rest_compared.buckets_of(self.dump.rest)
+
+    def marks_of_rest(self, buckets):
+        return rest_compared.marks_in(self.dump.rest, buckets)
+
+    def beside(self, joining):
+        return rest_compared.beside(self.dump.rest, joining)
+
+    def directories_below(self, ids):
+        return rest_compared.directories_below(self.dump, ids)
+
+    def has_block_in_rest(self, ids):
+        return self.dump.rest.has_block(ids)
 
     def paths_of(self, ids):
         return [path_by(self.table_of_inodes.entry_of, inode_id) for inode_id in ids]

@@ -22,9 +22,9 @@ NO_NAME = "/"
 class FirstImage:
     """The first image of a chain, which is taken on trust."""
 
-    def __init__(self, name, table, opened, names=None):
+    def __init__(self, name, table, opened, part=None):
         self.name = name
-        self.dump, contradiction = read_image(name, table, opened, names)
+        self.dump, contradiction = read_image(name, table, opened, part)
         self.check(contradiction or self.dump.low_inode or low_number(self.dump))
         self.link = Link(self.dump.txid, self.dump.txid, 0, self.dump.cluster, {})
 
@@ -36,6 +36,11 @@ class FirstImage:
     def sets(self):
         """The sets of attributes of its inodes."""
         return self.dump.sets
+
+    @property
+    def rest(self):
+        """What is not in the part, if there is one."""
+        return self.dump.rest
 
     def blocks_of_bare(self, _tree):
         """The blocks of bare files, by their rows."""

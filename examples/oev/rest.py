@@ -135,9 +135,10 @@ class Rest:
         self.note([inode_id], () if kind == BARE else [replication])
         if kind == BARE:
             self.kinds_of_bare.add(kind_of_bare)
+        numbers = array("q", numbers)
         self.words.append(self.sums.take((inode_id, name, kind, replication), numbers, *self.attributes.of([attributes]), kind_of_bare))
         if self.blocks is not None and kind != BARE:
-            self.blocks.extend(array("q", numbers)[1::3])
+            self.blocks.extend(numbers[1::3])
 
     def take_columns(self, columns, sets):
         """Takes those of many inodes that are of the rest. Answers the places of the others."""

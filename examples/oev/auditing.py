@@ -11,6 +11,7 @@ import os
 import sys
 from collections import Counter
 
+import order
 from between import Converted
 from chain import Chain, Keeping, Link
 from checkpoint import name_section
@@ -24,7 +25,7 @@ from part import Part, Wider, is_sparse, names_between, txid_of
 from progress import Progress
 from proved import chunks_of
 from rest import NO_REST
-from rest_compared import Joining, beside, differing
+from rest_compared import Joining, beside, differing, order_of
 from running import Running
 from second import Given, Second
 from starts import FirstImage, KeptImage
@@ -324,15 +325,34 @@ class Audit:
         self.rest = start.dump.sums_of_rest(gone, lambda: self.progress.open(self.options.start))
         theirs, moved = self.second.sums_of_rest(), self.inodes.placed_otherwise()
         if self.rest == theirs and not moved:
+            self.check_order(start.rest, moved)
             return
         joining = differing(start.rest, self.second) if self.rest != theirs else Joining(set(), set())
-        joining.directories.update(entry.directory for entry in moved)
-        joining.directories.update(self.second.directories_below([entry.id for entry in moved]))
+        joining.directories.update(other.directory for _, other in moved if other)
+        joining.directories.update(self.second.directories_below([other.id for _, other in moved if other]))
         ids = self.part.ids.union(beside(start.rest, joining), self.second.beside(joining))
         if len(ids) > max(FEW_JOINING, self.rest.files // JOINING_PART) or len(ids) == len(self.part.ids) and self.rest != theirs:
             raise Otherwise("the rest of the images differs")
         if len(ids) > len(self.part.ids):
             raise Wider(self.part._replace(ids=ids))
+        self.check_order(start.rest, moved)
+
+    def check_order(self, ours, moved):
+        """Sees to it that in the second image, too, what is in the part stands in order among files of the rest.
+
+        What differs in its place stands among none in the second image.
+        """
+        named = self.our_inodes.named
+        changed = {*named, *(one.id for one, _ in moved if one)}
+        total, places = order_of(ours, changed)
+        theirs, found = self.second.order_of_part(changed)
+        if total != theirs:
+            raise Otherwise("something stands elsewhere in its directory")
+        known = {place[:2] for place in places}
+        found = [place for place in found if place[:2] not in known]
+        names = self.second.names_of({one for place in found for one in place[1:] if one != NONE}) if found else {}
+        for place in found:
+            order.check(place, named[place.child].name, names)
 
     def check_blocks(self):
         """Sees to it that no block that the second image has otherwise is one of the rest, too."""

@@ -137,7 +137,7 @@ class Checkpoint(Dump):
         """Gives the rest what directories refer to. What can't be said of it then is Refused."""
         for owner, begin, end in zip(self.referring.owners, self.referring.ends, self.referring.ends[1:]):
             ids = [self.references[place] for place in self.referring.numbers[begin:end] if place < len(self.references)]
-            self.rest.sift(owner, ids, self.inodes.ids)
+            self.rest.refer(owner, ids)
         self.rest.finish(self.inodes)
         if self.least_block < FIRST_BLOCK_ID or self.greatest_block > self.last_block:
             raise Refused("a block has an id that no block has")

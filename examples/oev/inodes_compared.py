@@ -212,8 +212,8 @@ class InodesCompared:
         self.differing.append((one, other))
 
     def placed_otherwise(self):
-        """What the second image has in another place, or alone."""
-        return [other for one, other in self.differing if other and (one is None or one[:3] != other[:3])]
+        """What the images have in different places, or one of them alone: pairs of entries."""
+        return [(one, other) for one, other in self.differing if not (one and other and one[:3] == other[:3])]
 
     def tell(self, differences):
         """Tells what differs, but below a path of too many names, where records are left out."""

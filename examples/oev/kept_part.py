@@ -15,6 +15,7 @@ from inodes import BARE, DIRECTORY, NONE
 from inodes_compared import names_below
 from kept import KINDS, LINE, Kept, groups_of
 from listed import Listed
+from order import Place
 from quick import Columns, blocks_of
 from rest import Attributes, Sums, digest_of
 from starts import KeptImage, tree_over
@@ -81,6 +82,8 @@ class KeptPart(Kept):
         self.ids, self.sets, self.offsets = array("q"), array("I"), array("q")
         # The first words of the sums of these files, and whether each row is of a directory that is gone.
         self.words, self.is_gone = array("I"), ()
+        # Of each row the last file of the rest before it in its directory, or NONE. The root is in none.
+        self.before = array("i", [NONE])
         # Which files of the rest are in each directory, by its row, in the order of their lines.
         self.rest_in = {}
         self.odd = set()
@@ -126,16 +129,17 @@ class KeptPart(Kept):
             path, name = rows[at][8:10]
             if path != self.above[-1][0]:
                 self.go_to(path)
+            directory = self.above[-1][1]
+            if not name.isascii() or b"\n" in name or name.startswith(MARK.encode()):
+                self.odd.add(directory)
             if is_mine:
-                directory = self.above[-1][1]
                 self.rest_in.setdefault(directory, array("i")).append(len(self.ids))
                 self.ids.append(ids[at])
                 self.sets.append(sets[at])
                 self.offsets.append(self.offset)
-                if not name.isascii() or b"\n" in name or name.startswith(MARK.encode()):
-                    self.odd.add(directory)
             else:
                 self.above[-1][2].append(row)
+                self.before.append(self.rest_in[directory][-1] if directory in self.rest_in else NONE)
                 self.lines.append(lines[at] + b"\n")
                 if kinds[at] == DIRECTORY:
                     self.last = b"%b/%b" % (path, name), row
@@ -199,11 +203,31 @@ class KeptPart(Kept):
                 numbers = array("q", [self.inodes.ids[row], *(self.ids[place] for place in self.in_order_of_image(row, places, reader))])
                 yield self.inodes.ids[row], digest_of(numbers.tobytes())
 
+    def places_left(self):
+        """Where others stand among such files. The file behind them is not said."""
+        reader = self.reader()
+        for row, places in self.rest_in.items():
+            if not self.is_gone[row]:
+                children = self.rows_in(row)
+                befores = [self.before[child] for child in children] if row not in self.odd else self.befores_by_names(places, children, reader)
+                for child, before in zip(children, befores):
+                    yield Place(self.inodes.ids[child], NONE if before == NONE else self.ids[before], NONE)
+
+    def befores_by_names(self, places, children, reader):
+        """The last file of the rest before each of these rows, in the order of an image."""
+        files = [(self.key_in(name_in(reader.line(self.offsets[place]))), place) for place in places]
+        keys = [self.key_in(self.inodes.name(child)) for child in children]
+        return [max((file for file in files if file[0] < key), default=(None, NONE))[1] for key in keys]
+
+    def key_in(self, name):
+        """What the order of an image goes by, for a name in a line."""
+        return self.full(name).translate(SIGNED)
+
     def in_order_of_image(self, row, places, reader):
         """The files of a directory in the order in which an image lists them."""
         if row not in self.odd:
             return places
-        return sorted(places, key=lambda place: self.full(name_in(reader.line(self.offsets[place]))).translate(SIGNED))
+        return sorted(places, key=lambda place: self.key_in(name_in(reader.line(self.offsets[place]))))
 
     def sums_of_line(self, line, place):
         """The sums of one file."""

@@ -211,6 +211,7 @@ def check_parts(trials):
             both_ways(trials, f"{make.__doc__} with quotes as entities", 0, by_sums, *words, quoted)
     check_damages_of_rest(trials)
     check_left_behind(trials)
+    check_order(trials)
     check_overwrite(trials)
     check_odd_rest(trials)
     check_chain_of_parts(trials)
@@ -251,6 +252,24 @@ def check_left_behind(trials):
     )
     output = both_ways(trials, "a file that is left behind", 1, None, "--from", first, "--to", trials.check.file(left(after)), log)
     trials.check.contains("what is told of it", output, 'extra "/two-y"')
+
+
+def check_order(trials):
+    """What is new, or a directory, stands in order among files that no record names, or at another place."""
+    story = Warehouse()
+    cluster = story.cluster
+    cluster.make_directory(story.parts[0], "one-xx")
+    first = cluster.txid
+    written(cluster, story.parts[0], "one-yy", 5)
+    cluster.rename(story.parts[1].children["two-y"], story.parts[0], "one-a&b")
+    story.end()
+    log, last = log_of(trials, story), cluster.images[cluster.txid]
+    words = "--from", trials.check.file(cluster.images[first]), "--to"
+    both_ways(trials, "what is new stands in order", 0, 10, *words, trials.check.file(last), log)
+    for name, beside in (("one-yy", "one-z"), ("one-xx", "one-y"), ("one-a&amp;b", "one-x"), ("one-yy", "one-x")):
+        damaged = trials.check.file(shifted(last, name, beside))
+        output = both_ways(trials, f"{name} behind {beside}", 1, None, *words, damaged, log)
+        trials.check.contains("what is told of it", output, 'inconsistent "/table/one": the child ')
 
 
 def check_overwrite(trials):

@@ -13,6 +13,7 @@ from typing import NamedTuple
 
 from formats import Refused, to_json
 from inodes import BARE, DIRECTORY, NONE, Inodes, Lists, RowsOfIds
+from order import Places
 
 SUM_BYTES = 16
 SUM_WORDS = SUM_BYTES // array("I").itemsize
@@ -126,6 +127,8 @@ class Rest:
         self.owners, self.counts, self.digests = array("q"), array("Q"), []
         # Whether each list is out, once what is left was asked for.
         self.is_out = ()
+        # Where in these lists the others stand.
+        self.places = Places()
         # The rows of the directories in the part, and how many of these files each row of the part has.
         self.owner_rows, self.count_at = (), ()
 
@@ -177,13 +180,25 @@ class Rest:
         if self.rows is None:
             self.end_inodes(ids_of_part)
         rows = self.rows.of(numbers)
-        mine = [row for row in rows if row != NONE]
-        if mine:
-            self.note_list(owner, mine, array("q", [number for number, row in zip(numbers, rows) if row != NONE]))
-        return [number for number, row in zip(numbers, rows) if row == NONE] if mine else numbers
+        self.places.take(owner, numbers, rows)
+        if NONE not in rows:
+            self.note_list(owner, rows, numbers)
+            return ()
+        others = [number for number, row in zip(numbers, rows) if row == NONE]
+        if len(others) < len(rows):
+            self.note_list(owner, [row for row in rows if row != NONE], [number for number, row in zip(numbers, rows) if row != NONE])
+        return others
+
+    def refer(self, owner, numbers):
+        """Notes which of these files a directory refers to."""
+        pairs = [(row, number) for row, number in zip(self.rows.of(numbers), numbers) if row != NONE]
+        if pairs:
+            self.note_list(owner, *zip(*pairs))
 
     def note_list(self, owner, rows, ids):
         """A long list comes in several pieces."""
+        if not rows:
+            return
         if not self.owners or self.owners[-1] != owner:
             self.owners.append(owner)
             self.counts.append(0)
@@ -195,7 +210,7 @@ class Rest:
                 raise Refused("an inode is in two directories")
             lists[row] = place
         self.counts[-1] += len(rows)
-        self.digests[-1].update(ids.tobytes())
+        self.digests[-1].update(array("q", ids).tobytes())
 
     def end_digest(self, place):
         """Keeps of a list no more than its sum."""
@@ -205,6 +220,7 @@ class Rest:
     def finish(self, inodes):
         """All lists came."""
         self.end_digest(-1)
+        self.places.end()
         self.owner_rows = inodes.rows_of(self.owners)
         self.count_at = array("Q", bytes(8 * len(inodes)))
         for row, count in zip(self.owner_rows, self.counts):
@@ -250,6 +266,11 @@ class Rest:
     def listed(self):
         """The id of each directory that has such files, and the sum of its list."""
         return ((owner, digest) for owner, digest, is_out in zip(self.owners, self.digests, self.is_out) if not is_out)
+
+    def places_left(self):
+        """Where others stand among such files."""
+        files = array("q", (place.behind if place.before == NONE else place.before for place in self.places.all()))
+        return (place for place, row in zip(self.places.all(), self.rows.of(files)) if not self.is_out[self.lists[row]])
 
     def has_block(self, ids):
         """Whether a file of the rest has one of these blocks. Bare files count as without."""

@@ -9,7 +9,7 @@ from collections import Counter
 from typing import NamedTuple
 
 from inodes import DIRECTORY, NONE
-from rest import words_of
+from rest import Sums, digest_of, words_of
 
 BUCKETS = 4096
 
@@ -49,6 +49,13 @@ def differing(ours, second):
     buckets = {at for at, (one, other) in enumerate(pairs) if one != other}
     found = [(one - other) + (other - one) for one, other in zip(marks_in(ours, buckets), second.marks_of_rest(buckets))]
     return Joining(*({inode_id for inode_id, _ in them} for them in found))
+
+
+def order_of(rest, named):
+    """The sum of the places of what has none of these ids among files of a rest, and the places of what has one."""
+    sums, places = Sums(), list(rest.places_left())
+    sums.add(b"".join([digest_of(array("q", place[:2]).tobytes()) for place in places if place.child not in named]))
+    return sums.members(), [place for place in places if place.child in named]
 
 
 def directories_below(image, ids):

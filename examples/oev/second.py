@@ -15,6 +15,7 @@ from multiprocessing import Pipe
 from multiprocessing.reduction import recv_handle, send_handle
 from typing import NamedTuple, Optional
 
+import order
 import rest_compared
 from bare import word_of
 from checkpoint import give_image, pieces_of, read_image
@@ -144,6 +145,14 @@ class Second:
     def directories_below(self, ids):
         """The ids of those of these inodes that are directories, and of all directories below them."""
         return self.asked("directories_below", ids)
+
+    def order_of_part(self, named):
+        """Where what is in the part stands among files of the rest: a sum, and the places of what has one of these ids."""
+        return self.asked("order_of_part", named)
+
+    def names_of(self, ids):
+        """The names of files of the rest, by their ids."""
+        return self.asked("names_of", ids)
 
     def has_block_in_rest(self, ids):
         """Whether a file of the rest has one of these blocks."""
@@ -327,6 +336,12 @@ class Side:
 
     def directories_below(self, ids):
         return rest_compared.directories_below(self.dump, ids)
+
+    def order_of_part(self, named):
+        return rest_compared.order_of(self.dump.rest, named)
+
+    def names_of(self, ids):
+        return order.names_of(self.name, self.opened, ids)
 
     def has_block_in_rest(self, ids):
         return self.dump.rest.has_block(ids)

@@ -147,10 +147,16 @@ class RowsOfIds:
         low, self.table = self.low, array("i", [NONE]) * (max(ids, default=-1) - self.low + 1)
         table = self.table
         for row, inode_id in enumerate(ids):
-            if table[inode_id - low] == NONE:
-                table[inode_id - low] = row
-            elif self.repeated is None:
-                self.repeated = row
+            table[inode_id - low] = row
+        if len(table) - table.count(NONE) < len(ids):
+            self.find_repeated(ids)
+
+    def find_repeated(self, ids):
+        """An id that comes twice has the row where it comes first."""
+        low, table = self.low, self.table
+        for row in reversed(range(len(ids))):
+            table[ids[row] - low] = row
+        self.repeated = next(row for row, inode_id in enumerate(ids) if table[inode_id - low] != row)
 
     def sort(self, ids):
         """Sorts the ids with their rows. Some of them are sorted at a time, so that few numbers are objects at once."""
@@ -174,6 +180,8 @@ class RowsOfIds:
         """The row of each of these ids, or NONE."""
         if self.rows is None:
             low, table, count = self.low, self.table, len(self.table)
+            if wanted and low <= min(wanted) and max(wanted) < low + count:
+                return array("i", [table[at - low] for at in wanted])
             return array("i", (table[at - low] if 0 <= at - low < count else NONE for at in wanted))
         ids, rows, count = self.ids, self.rows, len(self.ids)
         places = map(partial(bisect_left, ids), wanted)

@@ -58,8 +58,8 @@ DIGITS = re.compile(rb"[0-9]+")
 # How what is passed over is counted, by the name of its element.
 KEYS = {name: f"inode/{name.decode()}" for name in (*OF_FILES, *OF_FOLDERS)}
 KEYS.update((name, f"file-under-construction/{name.decode()}") for name in OF_CLIENTS)
-# The tags that end an element in a file and in a directory that have all that they may have, but blocks and a client.
-FILE_ENDS, FOLDER_ENDS, BLOCK_ENDS = 10, 8, 4
+# The tags of a file and of a directory that have all that they may have, but blocks and a client, and those of a block.
+FILE_TAGS, FOLDER_TAGS, BLOCK_TAGS, BLOCKS_TAGS = 20, 16, 8, 2
 
 
 class Columns(NamedTuple):
@@ -103,13 +103,10 @@ class Known:
 
 def matched(pattern, data, at):
     """What a pattern has in its groups, as often as it follows itself in data from a place on; and the place behind."""
-    match, rows = pattern.match, []
-    found = match(data, at)
-    while found is not None:
+    rows, found = [], None
+    for found in iter(pattern.scanner(data, at).match, None):
         rows.append(found.groups())
-        at = found.end()
-        found = match(data, at)
-    return rows, at
+    return rows, at if found is None else found.end()
 
 
 def inodes_in(data, at, first_gen):
@@ -169,9 +166,10 @@ def passed_in(piece, kinds, blocks, opened, with_blocks):
     """How often each element came that is passed over, in a piece that has inodes of these kinds and so many blocks."""
     folders = kinds.count(DIRECTORY)
     files = len(kinds) - folders
-    most = FILE_ENDS * files + FOLDER_ENDS * folders + BLOCK_ENDS * blocks + with_blocks
+    most = FILE_TAGS * files + FOLDER_TAGS * folders + BLOCK_TAGS * blocks + BLOCKS_TAGS * with_blocks
     passed = Counter()
-    if opened or piece.count(b"</") != most:
+    # In no text is such a character.
+    if opened or piece.count(b"<") != most:
         passed.update({key: piece.count(b"<%b>" % name) for name, key in KEYS.items()})
         return passed
     # Each has all that it may have.

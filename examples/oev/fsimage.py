@@ -192,9 +192,9 @@ class Dump(Walk):
     def common_inodes(self, columns):
         """Adds many inodes."""
         self.inodes.add_columns(columns, self.sets_of(columns))
-        if columns.blocks:
-            ids = columns.blocks[1::3]
-            self.note_blocks(min(ids), max(ids), max(columns.blocks[0::3]))
+        bounds = columns.blocks.bounds
+        if bounds:
+            self.note_blocks(bounds.least, bounds.greatest, bounds.greatest_gen)
         self.passed.update(+columns.passed)
 
     def add(self, element):

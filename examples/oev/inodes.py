@@ -68,9 +68,9 @@ class Inodes:
         begin = len(self.names)
         self.names += b"".join(columns.names)
         self.name_ends.extend(islice(accumulate(map(len, columns.names), initial=begin), 1, None))
-        begin = len(self.blocks)
-        self.blocks.extend(columns.blocks)
-        self.block_ends.extend([begin + end for end in columns.block_ends])
+        begin, (numbers, ends) = len(self.blocks), columns.blocks.arrays
+        self.blocks.extend(numbers)
+        self.block_ends.extend([begin + end for end in ends])
         self.ids.extend(columns.ids)
         self.kinds += columns.kinds
         self.replications.extend(columns.replications)

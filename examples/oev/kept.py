@@ -2,12 +2,12 @@
 import json
 import re
 from array import array
-from itertools import accumulate
 
 from formats import PATH_NAMES, Refused, row_of
 from inodes import CLOSED, DIRECTORY, OPEN, Inodes, Lists
 from names import Names
-from quick import NUMBER, Columns, blocks_of, matched
+from many_blocks import ManyBlocks
+from quick import NUMBER, Columns, matched
 
 CHUNK_BYTES = 1 << 20
 END = b'{"end":'
@@ -77,11 +77,10 @@ class Kept(Names):
         if not rows:
             return
         *numbers, more, closed, paths, names, replications = zip(*rows)
-        blocks, counts = blocks_of(numbers, more)
         kinds = bytes([KINDS[state] for state in closed])
         replications = array("q", [int(replication or 0) for replication in replications])
         begin = len(self.inodes)
-        self.inodes.add_columns(Columns(array("q", range(begin, begin + len(rows))), names, kinds, replications, blocks, list(accumulate(counts)), None))
+        self.inodes.add_columns(Columns(array("q", range(begin, begin + len(rows))), names, kinds, replications, ManyBlocks(numbers, more), None))
         for row, (path, name, kind) in enumerate(zip(paths, names, kinds), begin):
             if path != self.above[-1][0]:
                 self.go_to(path)

@@ -5,7 +5,6 @@ they are then.
 """
 import json
 from array import array
-from itertools import accumulate
 from json.encoder import encode_basestring
 
 from bare import OLD, STRIPED
@@ -15,8 +14,9 @@ from inodes import BARE, DIRECTORY, NONE
 from inodes_compared import names_below
 from kept import KINDS, LINE, Kept, groups_of
 from listed import Listed
+from many_blocks import ManyBlocks
 from order import Place
-from quick import Columns, blocks_of
+from quick import Columns
 from rest import Attributes, Sums, digest_of
 from starts import KeptImage, tree_over
 from table import MARK
@@ -107,12 +107,11 @@ class KeptPart(Kept):
         if not rows:
             return
         *numbers, more, closed, paths, names, replications = zip(*rows)
-        blocks, counts = blocks_of(numbers, more)
         kinds = bytes(map(KINDS.__getitem__, closed))
         full = names if not self.link.names else list(map(self.full, names))
         ids, sets = (column[self.taken : self.taken + len(rows)] for column in (self.all_ids, self.all_sets))
         self.taken += len(rows)
-        columns = Columns(ids, full, kinds, array("q", [int(number or 0) for number in replications]), blocks, list(accumulate(counts)), None)
+        columns = Columns(ids, full, kinds, array("q", [int(number or 0) for number in replications]), ManyBlocks(numbers, more), None)
         mine = self.part.marks_of_rest(columns)
         self.place(rows, mine, kinds, full, lines.split(b"\n"), ids, sets)
         self.add_part(columns, names, sets, [at for at, is_mine in enumerate(mine) if not is_mine])
@@ -233,7 +232,7 @@ class KeptPart(Kept):
         """The sums of one file."""
         sums, found = Sums(), LINE.fullmatch(line)
         *numbers, more, closed, path, name, replication = found.groups() if found else groups_of(line)
-        blocks, _ = blocks_of([[number] for number in numbers], [more])
+        blocks, _ = ManyBlocks([[number] for number in numbers], [more]).arrays
         attributes, told = list(self.attributes.of([self.sets[place]])), self.replication_of.get(int(replication), int(replication))
         inode = self.ids[place], self.full(name)
         if told == NO_REPLICATION:

@@ -7,11 +7,12 @@ it. At anything else they stop, and expat goes on.
 import re
 from array import array
 from collections import Counter
-from itertools import accumulate, chain
+from itertools import accumulate
 from typing import Iterable, NamedTuple
 
 from formats import FIRST_BLOCK_ID
 from inodes import CLOSED, DIRECTORY, OPEN
+from many_blocks import ManyBlocks
 
 TEXT = rb"[!-%'-;=?-~ ]*"
 # One without escapes.
@@ -53,7 +54,6 @@ FOLDER = rb"DIRECTORY</type><name>%b</name>" % NAME + maybe(OF_FOLDERS) + taken(
 INODE = re.compile(rb"[\n ]*<inode><id>(%b)</id><type>(?:%b|%b)</inode>" % (NUMBER, FILE, FOLDER))
 LIST = re.compile(rb"[\n ]*<directory><parent>(%b)</parent>(?:<child>(%b(?:</child><child>%b)*)</child>)?</directory>" % ((NUMBER,) * 3))
 BETWEEN_CHILDREN = b"</child><child>"
-DIGITS = re.compile(rb"[0-9]+")
 
 # How what is passed over is counted, by the name of its element.
 KEYS = {name: f"inode/{name.decode()}" for name in (*OF_FILES, *OF_FOLDERS)}
@@ -69,24 +69,19 @@ class Columns(NamedTuple):
     names: list
     kinds: bytes
     replications: array
-    # The stamp, the id and the length of each block, and where those of each inode end.
-    blocks: array
-    block_ends: list
+    blocks: ManyBlocks
     passed: Counter
     # The kind of each inode and the texts of its attributes: three of a file, three of a directory.
     attributes: Iterable = ()
 
     def picked(self, places):
         """The inodes at these places."""
-        ends = self.block_ends
-        listed = [self.blocks[ends[at - 1] if at else 0 : ends[at]] for at in places]
         return Columns(
             array("q", map(self.ids.__getitem__, places)),
             list(map(self.names.__getitem__, places)),
             bytes(map(self.kinds.__getitem__, places)),
             array("q", map(self.replications.__getitem__, places)),
-            array("q", chain.from_iterable(listed)),
-            list(accumulate(map(len, listed))),
+            self.blocks.picked(places),
             Counter(),
         )
 
@@ -119,8 +114,9 @@ def inodes_in(data, at, first_gen):
         return None, at
     ids, names, replications, sizes, owners, *groups, policies, opened, folders, folder_owners, quotas, spaces = zip(*rows)
     one, stamp, length, two, other_stamp, other_length, more = groups
-    blocks, counts = blocks_of((stamp, one, length, other_stamp, two, other_length), more, is_id_first=True)
-    if blocks and (min(blocks[1::3]) < FIRST_BLOCK_ID or min(blocks[0::3]) < first_gen):
+    blocks = ManyBlocks((stamp, one, length, other_stamp, two, other_length), more, is_id_first=True)
+    bounds = blocks.bounds
+    if bounds and (bounds.least < FIRST_BLOCK_ID or bounds.least_gen < first_gen):
         return None, at
     are_plain = not any(folders) and not any(opened)
     kinds = bytes((CLOSED,)) * len(rows) if are_plain else bytes(map(kind_of, folders, opened))
@@ -130,8 +126,7 @@ def inodes_in(data, at, first_gen):
         kinds,
         array("q", [int(replication or 0) for replication in replications]),
         blocks,
-        list(accumulate(counts)),
-        passed_in(data[at:behind], kinds, len(blocks) // 3, sum(map(bool, opened)), sum(map(bool, counts))),
+        passed_in(data[at:behind], kinds, bounds.count if bounds else 0, sum(map(bool, opened)), len(one) - one.count(None)),
         zip(kinds, owners, sizes, policies, folder_owners, quotas, spaces),
     )
     return columns, behind
@@ -141,25 +136,6 @@ def kind_of(folder, opened):
     if folder is not None:
         return DIRECTORY
     return CLOSED if opened is None else OPEN
-
-
-def blocks_of(numbers, more, is_id_first=False):
-    """The stamp, the id and the length of each block, and how many of these numbers each inode has.
-
-    The numbers of two blocks stand in columns. Those of further ones stand in a text, where the id may come first.
-    """
-    counts = [3 * ((one is not None) + (two is not None)) for one, two in zip(numbers[0], numbers[3])]
-    if not any(more):
-        return array("q", map(int, filter(None, chain.from_iterable(zip(*numbers))))), counts
-    blocks = array("q")
-    for at, (these, rest) in enumerate(zip(zip(*numbers), more)):
-        blocks.extend(map(int, filter(None, these)))
-        found = list(map(int, DIGITS.findall(rest))) if rest else []
-        if is_id_first:
-            found[0::3], found[1::3] = found[1::3], found[0::3]
-        blocks.extend(found)
-        counts[at] += len(found)
-    return blocks, counts
 
 
 def passed_in(piece, kinds, blocks, opened, with_blocks):

@@ -13,16 +13,15 @@ from typing import NamedTuple
 
 from formats import Refused, to_json
 from inodes import BARE, DIRECTORY, NONE, Inodes, Lists, RowsOfIds
+from many_blocks import text_of
 from order import Places
 
 SUM_BYTES = 16
 SUM_WORDS = SUM_BYTES // array("I").itemsize
 LONG_BITS = 64
 MODULUS = 1 << 8 * SUM_BYTES
-# The id, the replication, the kind, how many numbers the blocks have, and the bytes of the name.
+# The id, the replication, the kind, and how many bytes the name has and the text of the blocks.
 HEAD = struct.Struct("<qqBQQ")
-NUMBER_BYTES = array("q").itemsize
-BLOCK_BYTES = 3 * NUMBER_BYTES
 
 
 class Total(NamedTuple):
@@ -55,14 +54,14 @@ class Sums:
         Answers the first word of its sum.
         """
         inode_id, name, kind, replication = inode
-        blocks = array("q", numbers).tobytes()
+        blocks = text_of(numbers)
         head = HEAD.pack(inode_id, replication, kind, len(blocks), len(name))
         digest = digest_of(b"".join((head, attributes, name, blocks, kind_of_bare.encode())))
         self.add(digest)
         self.files += 1
         self.bare += kind == BARE
         # The program has no blocks of bare files.
-        self.blocks += 0 if kind == BARE else len(blocks) // BLOCK_BYTES
+        self.blocks += 0 if kind == BARE else count_in([blocks])
         return words_of(digest)[0]
 
     def take_columns(self, columns, attributes, mine):
@@ -70,8 +69,7 @@ class Sums:
 
         Answers the first words of their sums.
         """
-        listed, begins = columns.blocks.tobytes(), chain((0,), columns.block_ends)
-        blocks = [listed[NUMBER_BYTES * begin : NUMBER_BYTES * end] for begin, end in compress(zip(begins, columns.block_ends), mine)]
+        blocks = list(compress(columns.blocks.texts(), mine))
         names = list(compress(columns.names, mine))
         numbers = (compress(column, mine) for column in (columns.ids, columns.replications, columns.kinds))
         heads = map(HEAD.pack, *numbers, map(len, blocks), map(len, names))
@@ -79,7 +77,7 @@ class Sums:
         digests = b"".join([blake2b(text, digest_size=SUM_BYTES).digest() for text in texts])
         self.add(digests)
         self.files += len(names)
-        self.blocks += sum(map(len, blocks)) // BLOCK_BYTES
+        self.blocks += count_in(blocks)
         return words_of(digests)
 
     def add(self, digests):
@@ -149,9 +147,8 @@ class Rest:
         self.note(compress(columns.ids, mine), compress(columns.replications, mine))
         self.words.extend(self.sums.take_columns(columns, self.attributes.of(sets), mine))
         if self.blocks is not None:
-            begins = chain((0,), columns.block_ends)
-            for begin, end in compress(zip(begins, columns.block_ends), mine):
-                self.blocks.extend(columns.blocks[begin + 1 : end : 3])
+            for text in compress(columns.blocks.texts(), mine):
+                self.blocks.extend(map(int, text.split()[1::3]))
         return [at for at, is_mine in enumerate(mine) if not is_mine]
 
     def note(self, ids, replications):
@@ -363,6 +360,12 @@ class Again(Inodes):
 
 def digest_of(data):
     return blake2b(data, digest_size=SUM_BYTES).digest()
+
+
+def count_in(texts):
+    """How many blocks these texts are of."""
+    joined = b" ".join(filter(None, texts))
+    return (joined.count(b" ") + 1) // 3 if joined else 0
 
 
 def words_of(digests):

@@ -7,7 +7,7 @@ from typing import NamedTuple
 
 DIGITS = re.compile(rb"[0-9]+")
 # A number that has a zero before other digits.
-ZEROS = re.compile(rb" 0[0-9]|^0[0-9]")
+ZEROS = re.compile(rb" 0[0-9]")
 
 
 class Bounds(NamedTuple):
@@ -59,7 +59,8 @@ class ManyBlocks:
         texts = [b" ".join(filter(None, numbers)) for numbers in zip(*self.columns)]
         for at, numbers in self.further.items():
             texts[at] = b" ".join(filter(None, (texts[at], *numbers)))
-        if ZEROS.search(b" ".join(texts)):
+        joined = b" " + b" ".join(texts)
+        if b" 0" in joined and ZEROS.search(joined):
             return [text_of(map(int, text.split())) for text in texts]
         return texts
 

@@ -16,6 +16,7 @@ from between import Converted
 from chain import Chain, Keeping, Link
 from checkpoint import name_section
 from comparison import Blocks, Differences, compare
+from first_state import first_state
 from formats import PATH_NAMES, Refused, image_end
 from inodes import NONE
 from inodes_compared import InodesCompared, Ours, in_path_order
@@ -56,30 +57,43 @@ def audited(program, folder, options):
 
 def audited_by_parts(program, folder, options, chain):
     """Audits by a part, and by a wider one as long as there is something that it can't tell."""
-    part = Part(None)
-    for _ in range(PASSES):
-        try:
-            return Audit(program, folder, options, chain, part).run()
-        except Wider as found:
-            part = found.part
+    with contextlib.ExitStack() as stack:
+        part, made = Part(None), None
+        if chain and chain.found()[0] is None:
+            progress = progress_of(options)
+            made = stack.enter_context(first_state(options.start, f"{chain.name}.first", progress.open))
+            progress.clear()
+        for _ in range(PASSES):
+            try:
+                return Audit(program, folder, options, chain, part, made).run()
+            except Wider as found:
+                part = found.part
     raise Otherwise("the part grows and grows")
+
+
+def progress_of(options):
+    is_shown = not options.quiet and sys.stderr is not None and sys.stderr.isatty()
+    return Progress(sys.stderr if is_shown else None, options.progress)
 
 
 class Audit:
     """One audit, by its options, with the program and a folder for its files."""
 
-    def __init__(self, program, folder, options, chain=None, part=None):
+    def __init__(self, program, folder, options, chain=None, part=None, made=None):
         self.program = program
         self.folder = folder
         self.options = options
         self.output = AsObject() if options.json else Printed()
         self.chain = chain or (Chain(options.state) if options.state else None)
         link, self.place = self.chain.found() if self.chain else (None, 0)
+        # A state that was made of the first image, if the chain has none yet.
+        self.made = made
+        if made:
+            link, _, self.place = made
         self.table = Table(link.names, link.replications) if link else Table()
         self.link = link
         self.differences = Differences(options.most, self.output.tell, self.table)
-        is_shown = not options.quiet and sys.stderr is not None and sys.stderr.isatty()
-        self.progress = Progress(sys.stderr if is_shown else None, options.progress)
+        self.progress = progress_of(options)
         self.notes = []
         if link and link.is_old:
             self.notes.append(f"{self.chain.name} has no sum yet, and is taken as it is: the next one has its SHA-256")
@@ -195,9 +209,9 @@ class Audit:
     def start(self):
         """The end of the chain, or else the first image."""
         if self.link is not None:
-            if self.options.start:
+            if self.options.start and not self.made:
                 raise Refused(f"{self.chain.name} goes on from TXID {self.link.txid}, and --from is for the first audit alone")
-            kept = self.link, self.chain.name, self.place, self.table
+            kept = self.link, self.made.name if self.made else self.chain.name, self.place, self.table
             return KeptImage(*kept) if self.part is None else PartOfKept(*kept, self.part)
         if not self.options.start:
             raise Refused("--from FROM has to name the image that the log goes on from")

@@ -57,9 +57,9 @@ class Wider(Exception):
 def is_sparse(options, link):
     """Whether an audit gives the program a part alone: as its options say, or else where that saves.
 
-    It reads some files twice. The first audit of a chain is of the whole, since its state has to be whole.
+    It reads some files twice. The next audit of a chain whose state has no inodes yet is of the whole.
     """
-    if options.whole or bool(options.state) != bool(link and link.inodes):
+    if options.whole or link and not link.inodes or bool(options.start) == bool(link):
         return False
     if not all(map(is_regular, [options.to, *options.files, *filter(None, [options.start])])):
         return False

@@ -340,7 +340,7 @@ def check_chain_of_parts(trials):
     log, state = log_of(trials, story), os.path.join(trials.check.folder, "parts")
     images = [story.cluster.images[txid] for txid in txids]
     words = ["--from", trials.check.file(images[0])]
-    for place, by_sums in enumerate((None, 23, 10), 1):
+    for place, by_sums in enumerate((11, 23, 10), 1):
         if place == 3:
             check_damages_in_chain(trials, state, images[place], log)
         both_ways(trials, f"a chain of parts, {place}", 0, by_sums, *words, "--to", trials.check.file(images[place]), log, state=state)

@@ -24,7 +24,7 @@ from cases import document, record, rename
 from chain import INODE_BYTES, OF_INODES, Chain
 from cluster import Cluster
 from formats import Refused, to_json
-from part_cases import WAYS, by_parts, check_parts
+from part_cases import WAYS, by_parts, check_parts, kept_in
 from progress import Progress
 from proved import Program
 from running import Running
@@ -667,9 +667,11 @@ def at_once(check, program, cluster, first, last, name, state=None):
     options.__dict__.update(json=False, quiet=True, progress=None, strict=False)
     said = said_in_process(program, options, whole=True)
     check.holds(f"{name} from TXID {first} to {last}", "\nthe same in " in said, said)
-    if state is None:
-        part = said_in_process(program, options, whole=False)
-        check.same(f"{name} from TXID {first} to {last}, by a part", (WAYS.search(part) is not None, WAYS.sub("", part)), (True, said))
+    options.state = state and f"{state}-parts"
+    part = said_in_process(program, options, whole=False)
+    check.same(f"{name} from TXID {first} to {last}, by a part", (WAYS.search(part) is not None, WAYS.sub("", part)), (True, said))
+    if state is not None:
+        check.same(f"what is kept of {name} at {last}", kept_in(options.state), kept_in(state))
 
 
 def said_in_process(program, options, whole):

@@ -12,7 +12,7 @@ from formats import Refused
 from inodes import NONE
 from walk import keys_of
 
-CHUNK_BYTES = 1 << 22
+CHUNK_BYTES = 1 << 18
 INODE = re.compile(rb"<inode><id>([0-9]+)</id><type>FILE</type><name>([^<]*)</name>")
 BEGINS = b"<inode>"
 ENTITY = re.compile("&([^;]*);?")
@@ -36,14 +36,20 @@ class Places:
         self.owner, self.before, self.open = None, NONE, 0
         self.begin, self.is_mixed = 0, False
 
-    def take(self, owner, numbers, rows):
-        """Takes a list, of which the files of the rest have rows. A long list comes in several pieces."""
+    def begin_list(self, owner):
+        """A long list comes in several pieces."""
         if owner != self.owner:
             self.end()
             self.owner, self.before, self.begin, self.open = owner, NONE, len(self.children), len(self.children)
-        if NONE not in rows:
-            self.pass_by(numbers)
-            return
+
+    def pass_list(self, owner, numbers):
+        """Takes a list of files of the rest alone."""
+        self.begin_list(owner)
+        self.pass_by(numbers)
+
+    def take(self, owner, numbers, rows):
+        """Takes a list, of which the files of the rest have rows."""
+        self.begin_list(owner)
         for number, row in zip(numbers, rows):
             if row != NONE:
                 self.pass_by((number,))

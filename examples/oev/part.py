@@ -42,6 +42,8 @@ class Part(NamedTuple):
     def marks_of_rest(self, columns):
         """Of each of many inodes whether it is in the rest."""
         names, ids = self.names, self.ids
+        if DIRECTORY not in columns.kinds and names.isdisjoint(columns.names) and ids.isdisjoint(columns.ids if ids else ()):
+            return [True] * len(columns.ids)
         mine = [kind != DIRECTORY and name not in names for kind, name in zip(columns.kinds, columns.names)]
         return [is_mine and inode_id not in ids for is_mine, inode_id in zip(mine, columns.ids)] if ids else mine
 

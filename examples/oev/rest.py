@@ -177,10 +177,11 @@ class Rest:
         if self.rows is None:
             self.end_inodes(ids_of_part)
         rows = self.rows.of(numbers)
-        self.places.take(owner, numbers, rows)
         if NONE not in rows:
+            self.places.pass_list(owner, numbers)
             self.note_list(owner, rows, numbers)
             return ()
+        self.places.take(owner, numbers, rows)
         others = [number for number, row in zip(numbers, rows) if row == NONE]
         if len(others) < len(rows):
             self.note_list(owner, [row for row in rows if row != NONE], [number for number, row in zip(numbers, rows) if row != NONE])
@@ -203,8 +204,6 @@ class Rest:
             self.end_digest(-2)
         lists, place = self.lists, len(self.owners) - 1
         for row in rows:
-            if lists[row] != NONE:
-                raise Refused("an inode is in two directories")
             lists[row] = place
         self.counts[-1] += len(rows)
         self.digests[-1].update(array("q", ids).tobytes())
@@ -218,6 +217,8 @@ class Rest:
         """All lists came."""
         self.end_digest(-1)
         self.places.end()
+        if sum(self.counts) > len(self.lists) - self.lists.count(NONE):
+            raise Refused("an inode is in two directories")
         self.owner_rows = inodes.rows_of(self.owners)
         self.count_at = array("Q", bytes(8 * len(inodes)))
         for row, count in zip(self.owner_rows, self.counts):

@@ -8,7 +8,7 @@ through the program.
 import struct
 from array import array
 from hashlib import blake2b
-from itertools import chain, compress
+from itertools import compress
 from typing import NamedTuple
 
 from formats import Refused, to_json

@@ -123,6 +123,7 @@ class Checkpoint(Dump):
         places = element.numbers("refChild")
         if places:
             self.referring.add(owner, places)
+            self.children.keep(owner)
 
     def finish(self):
         self.mentions.check(self.inodes)

@@ -247,7 +247,7 @@ class Dump(Walk):
 
     def more_children(self, element):
         """Takes further children of the last directory."""
-        self.list(element, self.children.owners[-1])
+        self.list(element, self.children.last_owner())
 
     def list_plain(self, element):
         """Takes the children of a directory that lists nothing else. Answers whether that was seen at once."""

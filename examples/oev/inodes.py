@@ -212,6 +212,13 @@ class Lists:
         self.numbers.extend(numbers)
         self.ends.extend([begin + end for end in ends])
 
+    def keep(self, owner):
+        """Sees to it that the inode of this id, whose list came last, has one."""
+
+    def last_owner(self):
+        """The id of the inode whose list came last."""
+        return self.owners[-1]
+
     def finish(self, inodes):
         """Finds the lists of each row, and the owner of a list that is no inode."""
         rows = inodes.rows_of(self.owners)

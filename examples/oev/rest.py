@@ -222,7 +222,7 @@ class Rest:
         self.owner_rows = inodes.rows_of(self.owners)
         self.count_at = array("Q", bytes(8 * len(inodes)))
         for row, count in zip(self.owner_rows, self.counts):
-            if row == NONE:
+            if row == NONE or inodes.kinds[row] != DIRECTORY:
                 raise Refused("a list is of no directory")
             self.count_at[row] += count
 
@@ -318,14 +318,25 @@ class Sifted(Inodes):
 
 
 class SiftedLists(Lists):
-    """The lists of the part. What they have of the rest goes there."""
+    """The lists of the part. What they have of the rest goes there, and one that has nothing else is none here."""
 
     def __init__(self, inodes):
         super().__init__()
         self.inodes = inodes
+        self.last = None
 
     def add(self, owner, numbers):
-        super().add(owner, self.inodes.rest.sift(owner, numbers, self.inodes.ids))
+        self.last = owner
+        others = self.inodes.rest.sift(owner, numbers, self.inodes.ids)
+        if others or not numbers:
+            super().add(owner, others)
+
+    def keep(self, owner):
+        if not self.owners or self.owners[-1] != owner:
+            super().add(owner, ())
+
+    def last_owner(self):
+        return self.last
 
     def add_columns(self, owners, numbers, ends):
         begin = 0

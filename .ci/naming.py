@@ -15,7 +15,7 @@ SENTENCE = re.compile(r"(?<=[\w`)\"*][.?!])\s+")
 CODE = re.compile(r"`([^`]+)`")
 TARGET = re.compile(r"\]\([^)]*\)")
 FILE = re.compile(r"(?<![\w./*-])(?:[\w.-]+/)*[\w-][\w.-]*\.([a-z]+)\b(?![\w/*])")
-TOPS = r"(?:\.ci|bench|crates|dist|docs|examples|failover|feed|src|specs|proofs|must-fail)"
+TOPS = r"(?:\.ci|audit|bench|crates|dist|docs|examples|failover|feed|hdfs|src|specs|proofs|must-fail)"
 PATH = re.compile(rf"(?<![\w./*<-])(?:\.\./)*({TOPS}/[\w./*-]*[\w*])/?(?![\w$/])")
 OF_CRATE = re.compile(r"\b(?:src|specs|proofs|must-fail)/")
 NAMES = re.compile(r"(?<!\w)((?:\w+::)+\w+)")
@@ -193,14 +193,14 @@ class Naming:
     def look_at_option(self, option, unit):
         """An option alone is one of the program, of the scripts of the heading, or of those that are named nearest to it.
 
-        Where the document names no script, it may be one of those in examples/. The toolchain's stand in a block that names it.
+        Where the document names no script, it may be one of the commands of audit/ and hdfs/. The toolchain's stand in a block that names it.
         """
         heading = unit.section.partition("\n")[0]
         nearby = (scripts_in(text, self.here) for text in (unit.text, unit.block, self.prose))
-        near = next(filter(None, nearby), repo.in_examples())
+        near = next(filter(None, nearby), repo.of_clusters())
         near = near | scripts_in(heading, self.here) | {PROGRAM} | {TOOLCHAIN} & set(re.findall(r"`(rt) ", unit.block))
         if not any(option in repo.options_of(it) for it in near):
-            self.fault(f"no option {option} of {told(near, 'the program and the scripts in examples/')}: {shown(unit)}")
+            self.fault(f"no option {option} of {told(near, 'the program and the commands of audit/ and hdfs/')}: {shown(unit)}")
 
     def look_at_words(self, span):
         """A word of the service before its argument, or a line of its answers."""
@@ -244,7 +244,7 @@ def ways(span):
 @functools.cache
 def scripts_in(text, here):
     """The scripts that a text names, in its headings also without quotes."""
-    words = [span.split()[0] for span in CODE.findall(text)] + re.findall(r"[\w.]+(?:/[\w.]+)+", text)
+    words = [span.split()[0] for span in CODE.findall(text)] + re.findall(r"[\w.]+(?:/[\w.-]+)+", text)
     words += [word for line in text.splitlines() if line.startswith("#") for word in line.split()]
     return set().union(*(repo.owners_of(word, here, True) for word in words)) & repo.scripts()
 

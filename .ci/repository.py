@@ -162,20 +162,21 @@ def is_path_of_names(path, homes):
 @functools.cache
 def scripts():
     """The files that are run."""
-    tops = (".ci/", "bench/", "dist/", "examples/", "failover/", "feed/")
+    tops = (".ci/", "audit/", "bench/", "dist/", "examples/check", "examples/live/", "failover/", "feed/", "hdfs/")
     return {name for name in tracked() if name.startswith(tops) and os.access(path_of(name), os.X_OK)}
 
 
 @functools.cache
-def in_examples():
-    return {name for name in scripts() if name.startswith("examples/")}
+def of_clusters():
+    """The commands that judge a cluster."""
+    return {name for name in scripts() if name.startswith(("audit/", "hdfs/"))}
 
 
 @functools.cache
 def owners_of(word, here, alone):
     """What a word of a command line means: scripts, the program, the toolchain; nothing where it is no command.
 
-    A script in examples/ may be called by its name alone, and so may one in the document's folder.
+    A command that judges a cluster may be called by its name alone, such as `audit`, and so may a script in the document's folder.
     """
     word = word.strip("`$(),;:[]").rstrip(".").rpartition("=")[2]
     if word.rpartition("/")[2] == PROGRAM:
@@ -188,7 +189,8 @@ def owners_of(word, here, alone):
         return {it for it in scripts() if f"/{word}".endswith(f"/{it}") or it == f"{here}/{word}"}
     if not alone:
         return set()
-    return {f"{here}/{word}"} & scripts() or {it for it in in_examples() if os.path.basename(it) == word}
+    name = word.replace("_", "-").removeprefix("zulurowan-")
+    return {f"{here}/{word}"} & scripts() or {it for it in of_clusters() if os.path.basename(it).removeprefix("zulurowan-") == name}
 
 
 @functools.cache

@@ -23,10 +23,12 @@ from symbols import glibc_of
 # Each command, and the file of the archive that it is.
 COMMANDS = {
     "nn_standby": "bin/nn_standby",
-    "zulurowan-audit": "examples/oev/audit",
-    "zulurowan-watch": "examples/oev/watch",
-    "zulurowan-replicas": "examples/oev/replicas",
-    "zulurowan-follow": "examples/oev/follow",
+    "zulurowan-audit": "audit/zulurowan-audit",
+    "zulurowan-watch": "audit/zulurowan-watch",
+    "zulurowan-replicas": "audit/zulurowan-replicas",
+    "zulurowan-follow": "audit/zulurowan-follow",
+    "zulurowan-from-oev": "hdfs/zulurowan-from-oev",
+    "zulurowan-from-oiv": "hdfs/zulurowan-from-oiv",
     "zulurowan-feed": "feed/zulurowan-feed",
     "zulurowan-failover": "failover/zulurowan-failover",
 }

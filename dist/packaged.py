@@ -8,7 +8,7 @@ import subprocess
 from evidence import ROOT, read
 from package import COMMANDS, SHELLS
 
-STORY = "usr/lib/zulurowan/examples/oev/story"
+STORY = "usr/lib/zulurowan/examples/story"
 LONG = re.compile(r"(?<![\w-])--[a-z][a-z-]*")
 FISH = re.compile(r" -l ([a-z-]+)")
 

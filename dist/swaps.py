@@ -104,7 +104,7 @@ class Swaps:
             (PLACE, other, "its program is not what the linker makes of its object"),
             (LINK, files[LINK].data + b"\0", "its object is not the one that was just built"),
             ("RELEASE", re.sub(b"(?m)^commit: .*", b"commit: " + b"1" * 40, files["RELEASE"].data), "its gate.log is not of a gate"),
-            ("examples/oev/audit", b"#!/bin/sh\n", "examples/oev/audit is not that of its commit"),
+            ("audit/zulurowan-audit", b"#!/bin/sh\n", "audit/zulurowan-audit is not that of its commit"),
         ):
             self.change({name: data})
             self.says(f"{name} that was swapped, with its sums", 1, words, "--quick")

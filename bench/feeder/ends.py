@@ -16,10 +16,12 @@ import tempfile
 import time
 
 HERE = os.path.dirname(os.path.realpath(__file__))
-OEV = os.path.join(HERE, "..", "..", "examples", "oev")
-sys.path.append(OEV)
+TOP = os.path.join(HERE, "..", "..")
+DUMPS = os.path.join(TOP, "examples", "dumps")
+sys.path.append(TOP)
 
-from cases import add, block, close, document, end, mkdir, record, start
+from audit.trials.cases import add, block, close, document, end, mkdir, record, start
+from hdfs.finding import path_of_command
 from driving import SECONDS, Failed, Feed, Place, Tally, preloaded, until
 from hostile import check_bodies, check_callers
 from kills import check_kills
@@ -197,19 +199,19 @@ def check_cut(tally, place):
 
 def check_dumps(tally, place):
     """Dumps of `hdfs oev` are converted as they come, and a restart goes on with the tree of its image."""
-    for story in sorted(os.listdir(os.path.join(OEV, "dumps"))):
+    for story in sorted(os.listdir(DUMPS)):
         check_story(tally, place.within(story), story)
 
 
 def check_story(tally, place, story):
     """Each dump is followed by a feed of its own, which begins at the checkpoint of the one before."""
-    folder = os.path.join(OEV, "dumps", story)
+    folder = os.path.join(DUMPS, story)
     names = sorted(name for name in os.listdir(folder) if name.startswith("edits_0"))
     first, last = int(names[0][6:25]), int(names[-1][26:45])
     image = ""
     os.makedirs(place.checkpoints)
     for name in (name for name in os.listdir(folder) if name.startswith("fsimage")):
-        image = run_converter("from_oiv", os.path.join(folder, name))
+        image = run_converter("from-oiv", os.path.join(folder, name))
         with open(os.path.join(place.checkpoints, name[: -len(".xml")]), "w") as file:
             file.write(image)
         first = int(name[8:27]) + 1
@@ -228,14 +230,14 @@ def check_story(tally, place, story):
     own = os.path.join(place.folder, "image")
     with open(own, "w") as file:
         file.write(image)
-    lines = run_converter("from_oev", *sources, "--after", str(first - 1), *["--image", own] * bool(image))
+    lines = run_converter("from-oev", *sources, "--after", str(first - 1), *["--image", own] * bool(image))
     batch = place.batch(image + lines, *["--from-image"] * bool(image)).partition("\n")[2]
     tally.same(f"{story}: the tables are those of the batch", feed.tables(), f"txid {last}\n{batch}")
     feed.stop()
 
 
 def run_converter(name, *arguments):
-    done = subprocess.run([os.path.join(OEV, name), *arguments], capture_output=True, text=True, timeout=SECONDS)
+    done = subprocess.run([path_of_command(name), *arguments], capture_output=True, text=True, timeout=SECONDS)
     return done.stdout
 
 

@@ -2,6 +2,7 @@
 import http.client
 import os
 import random
+import re
 import signal
 import tempfile
 import time
@@ -44,11 +45,11 @@ class Kills:
     def restart(self, name, status, which):
         """All that the log has is had again."""
         self.start()
-        begun = int(self.feed.told().partition("goes on from TXID ")[2].split()[0])
+        told = until("what the feeder goes on from", lambda: re.search(r"goes on from TXID (\d+)\s", self.feed.told()))
         got = self.feed.reaches(self.next - 1)
         wanted = 1 if which == "program" else -signal.SIGKILL, self.next - 1, 0, {}
         self.tally.same(name, (status, got["txid"], got["lag"], got["faults"]), wanted)
-        return begun
+        return int(told[1])
 
     def in_segment(self, which):
         """A kill while the program has some of a segment's lines, and not all."""

@@ -96,12 +96,12 @@ impl Write for Stopping {
     }
 }
 
-// A page writes each part as soon as it is full. Behind a write that fails it writes nothing more, and tells so.
+// A page writes each part once the next piece has no room in it. Behind a write that fails it writes nothing more, and tells so.
 #[test]
 fn parts_of_a_page(rt: HostRuntime) {
     let mut page = Page::new(rt.alloc());
     let mut writer = Writer::new(Stopping::new(rt.alloc(), usize::MAX, 2, true));
-    for taken in [0u64, 65_600, 131_200, 131_200] {
+    for taken in [65_500u64, 131_000, 131_000] {
         assert!(rt; !page.has_failed());
         put_part(&mut page, &mut writer);
         assert_eq!(rt; writer.taken(), taken);
@@ -113,7 +113,7 @@ fn parts_of_a_page(rt: HostRuntime) {
     assert_eq!(rt; device.later, 0);
 }
 
-// 65,600 bytes, of which the last piece makes a part full.
+// 65,600 bytes, of which the first 65,500 go into a part.
 fn put_part(page: &mut Page, writer: &mut Writer<Stopping>) {
     for _ in 0..656u64 {
         page.put(writer, &[b'x'; 100]);

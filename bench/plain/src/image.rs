@@ -10,7 +10,7 @@ use crate::fault::{Fault, Refusal};
 use crate::fields::{Blocks, Keyword, Named, Number, Text};
 use crate::line::PathText;
 use crate::scenario::Lines;
-use crate::tree::{Children, File, Node};
+use crate::tree::{File, Node};
 use crate::typed::{read_into, reads_object, skip_rest, FromJson, Json};
 
 const MARK: &[u8] = b"image\n";
@@ -125,7 +125,7 @@ impl<'a> Members<'a> {
             return None;
         };
         let node = match form {
-            Form::Dir => Node::Dir(Children::default()),
+            Form::Dir => Node::dir(),
             Form::File => Node::File(File {
                 blocks: self.blocks.get().ok()?.into_iter().collect(),
                 closed: self.closed.get()?,

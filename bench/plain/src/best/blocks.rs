@@ -4,7 +4,7 @@ use std::collections::{btree_map, BTreeMap};
 use hashbrown::raw::RawTable;
 use smallvec::SmallVec;
 
-use crate::hash::{fold, seed};
+use crate::hash::{fold, Seeded};
 use crate::line::Block;
 
 #[derive(Clone, Copy, Debug, PartialEq, Eq)]
@@ -163,7 +163,7 @@ impl BlockTable {
             index: RawTable::new(),
             rows: Vec::new(),
             free: Vec::new(),
-            seed: seed(),
+            seed: Seeded::default().0,
             orders: BTreeMap::new(),
             total: 0,
             safe: 0,

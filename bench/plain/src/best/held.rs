@@ -2,7 +2,7 @@
 use hashbrown::raw::RawTable;
 
 use crate::blocks::Item;
-use crate::hash::{fold, seed};
+use crate::hash::{fold, Seeded};
 
 #[derive(Clone, Copy, Debug, Default)]
 struct DnSet([u64; 4]);
@@ -28,25 +28,26 @@ struct Queue {
 }
 
 #[derive(Clone, Copy)]
-struct Cell {
+struct Cell<N> {
     item: Item,
+    number: N,
     next: u32,
 }
 
-pub struct Held {
+pub struct Held<N> {
     queues: RawTable<Queue>,
-    cells: Vec<Cell>,
+    cells: Vec<Cell<N>>,
     free: u32,
     seed: u64,
 }
 
-impl Default for Held {
+impl<N> Default for Held<N> {
     fn default() -> Self {
         Held {
             queues: RawTable::new(),
             cells: Vec::new(),
             free: NONE,
-            seed: seed(),
+            seed: Seeded::default().0,
         }
     }
 }
@@ -56,10 +57,14 @@ fn hash(seed: u64, id: u64) -> u64 {
     fold(id ^ seed, 0xd6e8_feb8_6659_fd93)
 }
 
-impl Held {
+impl<N: Copy> Held<N> {
     #[inline]
-    pub fn hold(&mut self, block: u64, item: Item) {
-        let cell = Cell { item, next: NONE };
+    pub fn hold(&mut self, block: u64, item: Item, number: N) {
+        let cell = Cell {
+            item,
+            number,
+            next: NONE,
+        };
         let at = if self.free != NONE {
             let at = self.free;
             self.free = self.cells[at as usize].next;
@@ -129,7 +134,7 @@ impl Held {
     }
 
     #[inline]
-    pub fn release_named(&mut self, block: u64, stamp: u64, mut process: impl FnMut(Item)) {
+    pub fn release_named(&mut self, block: u64, stamp: u64, mut process: impl FnMut(Item, N)) {
         if self.queues.is_empty() {
             return;
         }
@@ -146,7 +151,7 @@ impl Held {
         let mut waiting = DnSet::default();
         let (mut c, mut kept_first, mut kept_last, mut kept) = (q.first, NONE, NONE, 0);
         while c != NONE {
-            let Cell { item, next } = cells[c as usize];
+            let Cell { item, number, next } = cells[c as usize];
             if item.stamp > stamp || waiting.contains(item.dn) {
                 waiting.insert(item.dn);
                 if kept_last == NONE {
@@ -157,7 +162,7 @@ impl Held {
                 kept_last = c;
                 kept += 1;
             } else {
-                process(item);
+                process(item, number);
                 cells[c as usize].next = *free;
                 *free = c;
             }
@@ -176,7 +181,7 @@ impl Held {
         }
     }
 
-    pub fn release_all(&mut self, block: u64, mut process: impl FnMut(Item)) {
+    pub fn release_all(&mut self, block: u64, mut process: impl FnMut(Item, N)) {
         if self.queues.is_empty() {
             return;
         }
@@ -188,8 +193,8 @@ impl Held {
         };
         let mut c = q.first;
         while c != NONE {
-            let Cell { item, next } = self.cells[c as usize];
-            process(item);
+            let Cell { item, number, next } = self.cells[c as usize];
+            process(item, number);
             self.cells[c as usize].next = self.free;
             self.free = c;
             c = next;
@@ -208,24 +213,24 @@ impl Held {
         ids
     }
 
-    pub fn release_range(&mut self, first: u64, last: u64, mut process: impl FnMut(u64, Item)) {
+    pub fn release_range(&mut self, first: u64, last: u64, mut process: impl FnMut(u64, Item, N)) {
         if self.queues.is_empty() {
             return;
         }
         if last - first < self.queues.len() as u64 {
             for block in first..=last {
-                self.release_all(block, |item| process(block, item));
+                self.release_all(block, |item, number| process(block, item, number));
             }
         } else {
             for block in self.sorted(|b| (first..=last).contains(&b)) {
-                self.release_all(block, |item| process(block, item));
+                self.release_all(block, |item, number| process(block, item, number));
             }
         }
     }
 
-    pub fn release_rest(&mut self, mut process: impl FnMut(u64, Item)) {
+    pub fn release_rest(&mut self, mut process: impl FnMut(u64, Item, N)) {
         for block in self.sorted(|_| true) {
-            self.release_all(block, |item| process(block, item));
+            self.release_all(block, |item, number| process(block, item, number));
         }
     }
 

@@ -3,7 +3,7 @@ use hashbrown::raw::RawTable;
 use smallvec::SmallVec;
 
 use crate::fault::Fault;
-use crate::hash::{fold, seed};
+use crate::hash::{fold, Seeded};
 use crate::line::{Block, PathText};
 
 pub type NodeId = u32;
@@ -20,6 +20,12 @@ pub struct File {
 pub enum Node {
     Dir,
     File(File),
+}
+
+impl Node {
+    pub fn dir() -> Node {
+        Node::Dir
+    }
 }
 
 pub enum Seen<'a> {
@@ -103,7 +109,7 @@ impl Tree {
             names: Vec::new(),
             dead: 0,
             table: RawTable::new(),
-            seed: seed(),
+            seed: Seeded::default().0,
         }
     }
 

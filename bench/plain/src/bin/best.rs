@@ -4,7 +4,7 @@
 
 #[path = "../best/blocks.rs"]
 mod blocks;
-#[path = "../best/engine.rs"]
+#[path = "../engine.rs"]
 mod engine;
 #[path = "../best/fast.rs"]
 mod fast;
@@ -12,11 +12,13 @@ mod fast;
 mod fault;
 #[path = "../fields.rs"]
 mod fields;
-#[path = "../best/hash.rs"]
+#[path = "../hash.rs"]
 mod hash;
 #[path = "../best/held.rs"]
 mod held;
-#[path = "../best/image.rs"]
+#[path = "../history.rs"]
+mod history;
+#[path = "../image.rs"]
 mod image;
 #[path = "../best/line.rs"]
 mod line;

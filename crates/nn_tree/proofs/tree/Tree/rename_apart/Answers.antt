@@ -7,7 +7,7 @@ use Rattle.nn_tree.proofs.Changed.{move_applies, made_undone}
 use Rattle.nn_tree.proofs.Files.{at_found}
 use Rattle.nn_tree.proofs.Maps.{not_root, has_name}
 use Rattle.nn_tree.proofs.Prefix.{can_move, place_kept, moves}
-use Rattle.nn_tree.proofs.tree.Tree.rename.Goals as goal
+use Rattle.nn_tree.proofs.tree.Tree.rename_apart.Goals as goal
 
 pub take-placeholder-requires : goal.take-placeholder-requires
 take-placeholder-requires c = has_name c.args.dst.now _ c.in-Ok.ensures.ok.0

@@ -15,6 +15,7 @@ use crate::fields::Fields;
 use crate::keys::TextKey;
 use crate::reading::tx_in;
 use crate::report::report_in;
+use crate::texts::KeptTexts;
 use json::Scratch;
 use nn_bytes::{LineText, known_text, text_of};
 use nn_plain::read_plain;
@@ -73,7 +74,24 @@ pub fn read_line(alloc: Global, scratch: &mut Scratch, line: &[u8]) -> Result<Li
     ensures exact { LineGives result (either_of_line line.now) }
     ensures lawful { IfOk result IsLawfulLine }
 {
-    either_of_line(alloc, scratch, line)
+    let mut texts = KeptTexts::new(alloc);
+    read_line_into(alloc, scratch, &mut texts, line)
+}
+
+/// The same, with the texts of its paths in the room of texts that a caller keeps over its lines. What these say has no part in
+/// the line. A line whose paths have room in them takes no memory for a path.
+pub fn read_line_into(
+    alloc: Global,
+    scratch: &mut Scratch,
+    texts: &mut KeptTexts,
+    line: &[u8],
+) -> Result<Line, LineFault>
+    ensures found { IfOk result (IsLine line.now) }
+    ensures only { (read : LineData) → IsLine line.now read → LineGives result (Ok read) }
+    ensures exact { LineGives result (either_of_line line.now) }
+    ensures lawful { IfOk result IsLawfulLine }
+{
+    either_of_line(alloc, scratch, texts, line)
 }
 
 fn edit_of_line(alloc: Global, scratch: &mut Scratch, line: &[u8]) -> Result<Tx, LineFault>
@@ -81,7 +99,8 @@ fn edit_of_line(alloc: Global, scratch: &mut Scratch, line: &[u8]) -> Result<Tx,
 {
     let mut fields = Fields::none();
     fields_in(alloc, scratch, line, &mut fields)?;
-    tx_in(alloc, &mut fields)
+    let mut texts = KeptTexts::new(alloc);
+    tx_in(alloc, &mut texts, &mut fields)
 }
 
 fn report_of_line(alloc: Global, scratch: &mut Scratch, line: &[u8]) -> Result<Report, LineFault>
@@ -92,22 +111,31 @@ fn report_of_line(alloc: Global, scratch: &mut Scratch, line: &[u8]) -> Result<R
     report_in(&fields)
 }
 
-fn either_of_line(alloc: Global, scratch: &mut Scratch, line: &[u8]) -> Result<Line, LineFault>
+fn either_of_line(
+    alloc: Global,
+    scratch: &mut Scratch,
+    texts: &mut KeptTexts,
+    line: &[u8],
+) -> Result<Line, LineFault>
     ensures { LineGives result (either_of_line line.now) }
 {
     let mut fields = Fields::none();
     fields_in(alloc, scratch, line, &mut fields)?;
-    either_in(alloc, &mut fields)
+    either_in(alloc, texts, &mut fields)
 }
 
 #[tactic(auto, unfolding(crate::specs::Parts::either_from))]
-fn either_in(alloc: Global, fields: &mut Fields<'_>) -> Result<Line, LineFault>
+fn either_in(
+    alloc: Global,
+    texts: &mut KeptTexts,
+    fields: &mut Fields<'_>,
+) -> Result<Line, LineFault>
     ensures { LineGives result (either_from (seen_fields fields.old)) }
 {
     if fields.lacks_text(TextKey::Op) {
         return Ok(Line::Report(report_in(fields)?));
     }
-    Ok(Line::Edit(tx_in(alloc, fields)?))
+    Ok(Line::Edit(tx_in(alloc, texts, fields)?))
 }
 
 // What the object of a line has at the keys of the formats.

@@ -13,7 +13,7 @@ ghost use Rattle.nn_run.specs.Following.{serving, line_count, Lived, IsLive, IsN
 ghost use Rattle.nn_types.specs.Limits.{max_datanodes};
 
 use crate::follower::{Follower, LogFault};
-use nn_edits::Line;
+use nn_edits::{KeptTexts, Line};
 use nn_image::ImageFault;
 use nn_scenario::{LineSink, PartFault, ScenarioFault, SegmentCheck};
 use nn_shadow::Shadow;
@@ -54,9 +54,19 @@ impl LineSink for Following {
 
     ghost count = { line_count };
 
-    fn line(&mut self, alloc: Global, text: &[u8], read: Line) -> Result<(), AllocError> {
+    fn line(
+        &mut self,
+        alloc: Global,
+        text: &[u8],
+        read: Line,
+        texts: &mut KeptTexts,
+    ) -> Result<(), AllocError> {
         match read {
-            Line::Edit(tx) => self.edit(text, &tx),
+            Line::Edit(tx) => {
+                self.edit(text, &tx)?;
+                texts.take_back(tx.edit);
+                Ok(())
+            }
             Line::Report(report) => self.report(&report),
         }
     }

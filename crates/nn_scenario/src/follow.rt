@@ -11,7 +11,7 @@ ghost use Rattle.nn_types.specs.Limits.{max_input};
 use crate::lines::LineSink;
 use crate::scenario::{ScenarioFault, no_memory};
 use nn_device::Reader;
-use nn_edits::{Scratch, read_line};
+use nn_edits::{KeptTexts, Scratch, read_line_into};
 use nn_input::{InputFault, Lines};
 use nn_types::limits::{MAX_INPUT, MAX_LINE_LEN};
 use std::alloc::{AllocError, Global};
@@ -83,6 +83,7 @@ pub fn pass_to_end<R: Read>(lines: &mut Lines, input: &mut Reader<R>) -> Result<
 pub(crate) struct LineReader {
     alloc: Global,
     scratch: Scratch,
+    texts: KeptTexts,
     ended: u64,
 }
 
@@ -102,6 +103,7 @@ impl LineReader {
         LineReader {
             alloc,
             scratch: Scratch::new(alloc),
+            texts: KeptTexts::new(alloc),
             ended: 0,
         }
     }
@@ -171,11 +173,11 @@ impl LineReader {
         if blank {
             return Ok(());
         }
-        let read = match read_line(self.alloc, &mut self.scratch, text) {
+        let read = match read_line_into(self.alloc, &mut self.scratch, &mut self.texts, text) {
             Ok(read) => read,
             Err(fault) => return Err(ScenarioFault { fault, line }),
         };
-        if let Err(_) = sink.line(self.alloc, text, read) {
+        if let Err(_) = sink.line(self.alloc, text, read, &mut self.texts) {
             return Err(no_memory(line));
         }
         Ok(())

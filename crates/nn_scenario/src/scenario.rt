@@ -14,7 +14,7 @@ use crate::segments::Part;
 use crate::step_list::StepList;
 use crate::steps::Steps;
 use nn_bytes::{is_blank, line_end};
-use nn_edits::{Line, LineFault};
+use nn_edits::{KeptTexts, Line, LineFault};
 use nn_segment::is_end;
 use nn_types::Tx;
 use std::alloc::{AllocError, Global};
@@ -107,7 +107,14 @@ impl LineSink for Reading {
 
     ghost count = { λ reading. length reading.steps };
 
-    fn line(&mut self, alloc: Global, text: &[u8], read: Line) -> Result<(), AllocError> {
+    // It keeps each edit, with the texts of its paths.
+    fn line(
+        &mut self,
+        alloc: Global,
+        text: &[u8],
+        read: Line,
+        _texts: &mut KeptTexts,
+    ) -> Result<(), AllocError> {
         match read {
             Line::Edit(tx) => self.push_edit(alloc, text, tx),
             Line::Report(report) => self.steps.push_report(report),

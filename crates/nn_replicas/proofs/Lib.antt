@@ -10,3 +10,5 @@ pub mod Told
 pub mod Ties
 pub mod GivenBack
 pub mod RoomMade
+pub mod Words
+pub mod Recounted

@@ -1,5 +1,5 @@
 -- What an operator reads of a table: how many blocks, replicas and orders of each kind there are.
-use Rattle.std.specs.Prelude.{ℕ, Bool, false, not, ◌&&◌, ◌==◌, ◌+◌, ◌-◌, ◌<◌, ◌≤◌, ◌^◌, nat_lt, List, map, length, Option, Some, None, is_some, count_by, if◌then◌else◌}
+use Rattle.std.specs.Prelude.{ℕ, Bool, false, not, ◌&&◌, ◌==◌, ◌+◌, ◌-◌, ◌<◌, ◌≤◌, ◌^◌, nat_lt, nat_le, List, map, length, Option, Some, None, is_some, count_by, if◌then◌else◌}
 use Rattle.std.specs.List.{sum_by}
 use Rattle.std.specs.Ordering.{nat_cmp}
 use Rattle.nn_sorted.specs.Values.{entries_from}
@@ -11,6 +11,7 @@ use Rattle.nn_model.specs.Counts.{class_of}
 use Rattle.nn_model.specs.declared.form.BlockRow.{BlockRow}
 use Rattle.nn_replicas.specs.declared.entry.Cell.{Cell}
 use Rattle.nn_replicas.specs.declared.entry.Classes.{Classes}
+use Rattle.nn_replicas.specs.declared.entry.Standing.{Standing}
 use Rattle.nn_replicas.specs.declared.figures.Figures.{Figures}
 use Rattle.nn_replicas.specs.Table.{BlockEntry, Replicas}
 use Rattle.nn_replicas.specs.Entry.{live_cells, has_cell, is_closed, is_safe}
@@ -55,6 +56,11 @@ with_class c class = record {
   ahead = c.ahead + one_if (is_class Ahead class);
   wrong_length = c.wrong_length + one_if (is_class WrongLength class);
 }
+
+-- the class of what a DataNode has, if it was placed and has something
+abbrev pub class_told : Block → Option Cell → Option Class
+class_told b None = None
+class_told b (Some c) = option_map (λ r. class_of r b) c.replica
 
 -- one replica more can be counted
 pub record HaveRoom (c : Classes) : Type 0 where
@@ -195,6 +201,33 @@ pub record MayReplace (all was is : Figures) : Type 0 where
   pub wrong_length : Changes all.wrong_length was.wrong_length is.wrong_length
   pub orders : Changes all.orders was.orders is.orders
   pub places : Changes all.places was.places is.places
+
+-- what a block of a file with this replication is counted as, by its live replicas
+abbrev pub standing_of : Bool → ℕ → ℕ → ℕ → Standing
+standing_of closed replication min live = record {
+  safe = one_if (closed && nat_le min live);
+  missing = one_if (closed && (live == 0));
+  missing_of_one = one_if (closed && ((live == 0) && (replication == 1)));
+  under_replicated = one_if (closed && nat_lt live replication);
+  over_replicated = one_if (closed && nat_lt replication live);
+}
+
+-- a block that was counted as `was` is counted as `is`
+abbrev pub restood : Figures → Standing → Standing → Figures
+restood all was is = record all {
+  safe = (all.safe - was.safe) + is.safe;
+  missing = (all.missing - was.missing) + is.missing;
+  missing_of_one = (all.missing_of_one - was.missing_of_one) + is.missing_of_one;
+  under_replicated = (all.under_replicated - was.under_replicated) + is.under_replicated;
+  over_replicated = (all.over_replicated - was.over_replicated) + is.over_replicated;
+}
+
+pub record MayRestand (all : Figures) (was is : Standing) : Type 0 where
+  pub safe : Changes all.safe was.safe is.safe
+  pub missing : Changes all.missing was.missing is.missing
+  pub missing_of_one : Changes all.missing_of_one was.missing_of_one is.missing_of_one
+  pub under_replicated : Changes all.under_replicated was.under_replicated is.under_replicated
+  pub over_replicated : Changes all.over_replicated was.over_replicated is.over_replicated
 
 -- how many DataNodes have a cell once this one has
 abbrev pub grown : BlockEntry → ℕ → ℕ

@@ -1,5 +1,5 @@
 //! What is known of one block id: its row, and a cell for each DataNode that was placed.
-ghost use Rattle.std.specs.Prelude.{◌≡◌, IsOk, OnOk, OnErr, is_some, true, map, ◌++◌, IsTrue, length, count_by};
+ghost use Rattle.std.specs.Prelude.{◌≡◌, ℕ, IsOk, OnOk, OnErr, IfOk, is_some, true, map, ◌++◌, IsTrue, length, count_by};
 ghost use Rattle.std.specs.List.{list_all};
 ghost use Rattle.std.specs.List.Sorted.{IsStrictlySortedBy};
 ghost use Rattle.std.specs.FinMap.Entries.{find, is_sorted};
@@ -7,12 +7,13 @@ ghost use Rattle.std.specs.Ordering.{nat_cmp};
 ghost use Rattle.std.specs.Option.{option_map};
 ghost use Rattle.nn_model.specs.Counts.{class_of};
 ghost use Rattle.nn_replicas.specs.Scan.{place, is_here};
-ghost use Rattle.nn_replicas.specs.Entry.{replicas_in, orders_in, is_ordered, ordered_in, cell_retired, no_entry, is_idle, is_idle_cell, has_cell, entry_with_row, with_place, with_put, with_erased, with_told, retired, stamp_in};
+ghost use Rattle.nn_replicas.specs.Table.{BlockEntry};
+ghost use Rattle.nn_replicas.specs.Entry.{replicas_in, orders_in, is_ordered, ordered_in, cell_retired, no_entry, is_idle, is_idle_cell, has_cell, entry_with_row, with_place, with_put, with_erased, with_word, told_of, IsChange, retired, stamp_in, live_cells};
 ghost use Rattle.nn_replicas.specs.Calls.{reaches, with_due};
-ghost use Rattle.nn_replicas.specs.Figures.{classes_in, no_classes, with_class, HaveRoom, figures_in, too_few, one_if, grown};
+ghost use Rattle.nn_replicas.specs.Figures.{classes_in, no_classes, with_class, class_told, HaveRoom, figures_in, standing_of, replaced, MayReplace, too_few, one_if, grown};
 
 use crate::classes::class;
-use crate::figures::Figures;
+use crate::figures::{changed, Figures};
 use crate::orders_of::OrdersOf;
 use crate::replicas_of::ReplicasOf;
 use crate::slot::Slot;
@@ -29,6 +30,23 @@ pub struct Cell {
     pub replica: Option<Replica>,
     /// Whether the DataNode is to delete what it has of the block.
     pub ordered: bool,
+}
+
+/// What is said of a DataNode and a block.
+#[derive(Clone, Copy, Debug)]
+pub enum Told {
+    /// Something will be said: there is room for it.
+    Room,
+    Has(Replica),
+    HasNone,
+}
+
+/// A cell that is another one from now on.
+#[derive(Clone, Copy, Debug)]
+pub struct Change {
+    /// None where the DataNode was not placed.
+    pub was: Option<Cell>,
+    pub is: Cell,
 }
 
 // A block as a file holds it. The replication is the file's.
@@ -109,22 +127,53 @@ impl Entry {
             };
         };
         let classes = classes_of(cells, &file.block);
-        let replication = u64::from(file.replication);
-        let none = classes.live == 0;
+        let standing = Standing::of(&file, min, classes.live);
         Figures {
             blocks: 1,
             total: u64::from(file.closed),
-            safe: u64::from(file.closed & (u64::from(min) <= classes.live)),
-            missing: u64::from(file.closed & none),
-            missing_of_one: u64::from(file.closed & (none & (replication == 1))),
-            under_replicated: u64::from(file.closed & (classes.live < replication)),
-            over_replicated: u64::from(file.closed & (replication < classes.live)),
+            safe: standing.safe,
+            missing: standing.missing,
+            missing_of_one: standing.missing_of_one,
+            under_replicated: standing.under_replicated,
+            over_replicated: standing.over_replicated,
             stale: classes.stale,
             ahead: classes.ahead,
             wrong_length: classes.wrong_length,
             orders,
             places,
         }
+    }
+
+    // The figures of a table behind a change of one cell of this entry of it. Where no live replica came or went it looks at no
+    // other cell.
+    pub fn recount(&self, min: u16, figures: &mut Figures, change: Option<Change>)
+        requires { (e : BlockEntry) × (dn : ℕ) × IsChange e dn self.now change × IsTrue (is_sorted nat_cmp e.cells)
+            × MayReplace figures.old (figures_in min e) (figures_in min self.now) }
+        ensures { (e : BlockEntry) → (dn : ℕ) → IsChange e dn self.now change → IsTrue (is_sorted nat_cmp e.cells)
+            → MayReplace figures.old (figures_in min e) (figures_in min self.now)
+            → figures.new ≡ replaced figures.old (figures_in min e) (figures_in min self.now) }
+    {
+        let file = self.file;
+        let Some(change) = change else {
+            return;
+        };
+        figures.places += u64::from(change.was.is_none());
+        let order = u64::from(change.is.ordered);
+        figures.orders = changed(figures.orders, order_told(change.was), order);
+        let Some(file) = file else {
+            return;
+        };
+        let was = Classes::of(change.was, &file.block);
+        let is = Classes::of(Some(change.is), &file.block);
+        figures.stale = changed(figures.stale, was.stale, is.stale);
+        figures.ahead = changed(figures.ahead, was.ahead, is.ahead);
+        figures.wrong_length = changed(figures.wrong_length, was.wrong_length, is.wrong_length);
+        if was.live == is.live {
+            return;
+        }
+        let live = live_in(self.cells.as_slice(), &file.block);
+        let stood = Standing::of(&file, min, live - is.live + was.live);
+        figures.restand(&stood, &Standing::of(&file, min, live));
     }
 
     // How many live replicas the block has, where a closed file holds it and these do not make it safe.
@@ -149,25 +198,12 @@ impl Entry {
         has_cell(self.cells.as_slice(), place, dn)
     }
 
-    // Makes room for the DataNode, which stays.
-    pub fn place(&mut self, dn: u16) -> Result<(), AllocError>
-        ensures ok { OnOk result (self.new ≡ with_place self.old dn) }
+    // Writes what is said into the DataNode's cell, for which there is room from now on. Answers none where it was so already.
+    fn write(&mut self, dn: u16, told: Told) -> Result<Option<Change>, AllocError>
+        ensures ok { OnOk result (self.new ≡ with_word self.old dn told) }
+        ensures change { IfOk result (λ change. IsChange self.old dn self.new change) }
         ensures places { OnOk result (length self.new.cells ≡ grown self.old dn) }
-        ensures err { OnErr result (self.new ≡ self.old) }
-        ensures room { is_some (find nat_cmp dn self.old.cells) ≡ true → IsOk result }
-    {
-        let place = place_of(self.cells.as_slice(), dn);
-        if has_cell(self.cells.as_slice(), place, dn) {
-            return Ok(());
-        }
-        self.cells.insert(place, Slot::new(dn))?;
-        Ok(())
-    }
-
-    // Sets a replica where the block has a row, an order where it has none.
-    pub fn put(&mut self, dn: u16, replica: Replica) -> Result<(), AllocError>
-        ensures ok { OnOk result (self.new ≡ with_put self.old dn replica) }
-        ensures places { OnOk result (length self.new.cells ≡ grown self.old dn) }
+        ensures order { IsTrue (is_sorted nat_cmp self.old.cells) }
         ensures err { OnErr result (self.new ≡ self.old) }
         ensures room { is_some (find nat_cmp dn self.old.cells) ≡ true → IsOk result }
     {
@@ -177,18 +213,41 @@ impl Entry {
             let Some(slot) = self.cells.get_mut(place) else {
                 unreachable!()
             };
-            slot.put(named, replica);
-            return Ok(());
+            return Ok(slot.write(named, told));
         }
         let mut slot = Slot::new(dn);
-        slot.put(named, replica);
+        let _change = slot.write(named, told);
+        let is = slot.cell();
         self.cells.insert(place, slot)?;
-        Ok(())
+        Ok(Some(Change { was: None, is }))
+    }
+
+    // Makes room for the DataNode, which stays.
+    pub fn place(&mut self, dn: u16) -> Result<Option<Change>, AllocError>
+        ensures ok { OnOk result (self.new ≡ with_place self.old dn) }
+        ensures change { IfOk result (λ change. IsChange self.old dn self.new change) }
+        ensures places { OnOk result (length self.new.cells ≡ grown self.old dn) }
+        ensures err { OnErr result (self.new ≡ self.old) }
+        ensures room { is_some (find nat_cmp dn self.old.cells) ≡ true → IsOk result }
+    {
+        self.write(dn, Told::Room)
+    }
+
+    // Sets a replica where the block has a row, an order where it has none.
+    pub fn put(&mut self, dn: u16, replica: Replica) -> Result<Option<Change>, AllocError>
+        ensures ok { OnOk result (self.new ≡ with_put self.old dn replica) }
+        ensures change { IfOk result (λ change. IsChange self.old dn self.new change) }
+        ensures places { OnOk result (length self.new.cells ≡ grown self.old dn) }
+        ensures err { OnErr result (self.new ≡ self.old) }
+        ensures room { is_some (find nat_cmp dn self.old.cells) ≡ true → IsOk result }
+    {
+        self.write(dn, Told::Has(replica))
     }
 
     // Takes away the replica where the block has a row, the order where it has none.
-    pub fn erase(&mut self, dn: u16)
+    pub fn erase(&mut self, dn: u16) -> Option<Change>
         ensures erased { self.new ≡ with_erased self.old dn }
+        ensures change { IsChange self.old dn self.new result }
         ensures places { length self.new.cells ≡ length self.old.cells }
     {
         let named = self.file.is_some();
@@ -197,52 +256,28 @@ impl Entry {
             let Some(slot) = self.cells.get_mut(place) else {
                 unreachable!()
             };
-            slot.erase(named);
+            return slot.write(named, Told::HasNone);
         }
+        None
     }
 
-    // As `place`, and then `put` of the replica, or `erase` where there is none.
-    pub fn tell(&mut self, dn: u16, replica: Option<Replica>) -> Result<(), AllocError>
-        ensures ok { OnOk result (self.new ≡ with_told self.old dn replica) }
-        ensures places { OnOk result (length self.new.cells ≡ grown self.old dn) }
-        ensures err { OnErr result (self.new ≡ self.old) }
-        ensures room { is_some (find nat_cmp dn self.old.cells) ≡ true → IsOk result }
-    {
-        let Some(replica) = replica else {
-            let Ok(()) = self.place(dn) else {
-                return Err(AllocError);
-            };
-            self.erase(dn);
-            return Ok(());
-        };
-        let Ok(()) = self.put(dn, replica) else {
-            return Err(AllocError);
-        };
-        Ok(())
-    }
-
-    // As `place`, and as `tell` where the row has at least this generation stamp.
+    // As `place`, and where the row has at least this generation stamp as `put` of the replica, or `erase` where there is none.
     pub fn tell_due(
         &mut self,
         dn: u16,
         stamp: GenerationStamp,
         replica: Option<Replica>,
-    ) -> Result<(), AllocError>
+    ) -> Result<Option<Change>, AllocError>
         ensures ok { OnOk result (self.new ≡ with_due self.old dn stamp replica) }
+        ensures change { IfOk result (λ change. IsChange self.old dn self.new change) }
         ensures places { OnOk result (length self.new.cells ≡ grown self.old dn) }
         ensures err { OnErr result (self.new ≡ self.old) }
         ensures room { is_some (find nat_cmp dn self.old.cells) ≡ true → IsOk result }
     {
         if !reaches(&self.stamp(), stamp) {
-            let Ok(()) = self.place(dn) else {
-                return Err(AllocError);
-            };
-            return Ok(());
+            return self.write(dn, Told::Room);
         }
-        let Ok(()) = self.tell(dn, replica) else {
-            return Err(AllocError);
-        };
-        Ok(())
+        self.write(dn, told_of(replica))
     }
 
     // The generation stamp of the row.
@@ -332,6 +367,16 @@ fn reaches(named: &Option<GenerationStamp>, stamp: GenerationStamp) -> bool
     named >= stamp
 }
 
+// What is said of a DataNode that has this replica, or none.
+fn told_of(replica: Option<Replica>) -> Told
+    ensures { result ≡ told_of replica }
+{
+    match replica {
+        None => Told::HasNone,
+        Some(replica) => Told::Has(replica),
+    }
+}
+
 // Where the DataNode's cell is, or would be.
 fn place_of(slots: &[Slot], dn: u16) -> usize
     ensures { result ≡ place dn slots.now }
@@ -405,6 +450,13 @@ impl Classes {
         }
     }
 
+    // What one DataNode has.
+    fn of(cell: Option<Cell>, block: &Block) -> Classes
+        ensures { result ≡ with_class no_classes (class_told block.now cell) }
+    {
+        Classes::none().with(class_told(cell, block))
+    }
+
     // The same with one replica more, if there is one.
     fn with(self, class: Option<Class>) -> Classes
         requires { HaveRoom self }
@@ -450,6 +502,65 @@ fn class_in(slot: &Slot, block: &Block) -> Option<Class>
         return None;
     };
     Some(class(replica, *block))
+}
+
+// The same of a DataNode that may not have been placed.
+fn class_told(cell: Option<Cell>, block: &Block) -> Option<Class>
+    ensures { result ≡ class_told block.now cell }
+{
+    let Some(cell) = cell else {
+        return None;
+    };
+    let Some(replica) = cell.replica else {
+        return None;
+    };
+    Some(class(replica, *block))
+}
+
+// 1 where the DataNode is to delete what it has.
+fn order_told(cell: Option<Cell>) -> u64
+    ensures { result ≡ one_if (is_ordered cell) }
+{
+    let Some(cell) = cell else {
+        return 0;
+    };
+    u64::from(cell.ordered)
+}
+
+// How many live replicas the block has.
+fn live_in(cells: &[Slot], block: &Block) -> u64
+    ensures { result ≡ live_cells block.now cells.now }
+{
+    cells
+        .iter()
+        .filter(|slot| class_in(slot, block) == Some(Class::Live))
+        .count() as u64
+}
+
+// What a block of a file is counted as, by its live replicas.
+#[derive(Clone, Copy, Debug)]
+pub struct Standing {
+    pub safe: u64,
+    pub missing: u64,
+    pub missing_of_one: u64,
+    pub under_replicated: u64,
+    pub over_replicated: u64,
+}
+
+impl Standing {
+    fn of(file: &FileBlock, min: u16, live: u64) -> Standing
+        ensures { result ≡ standing_of file.now.closed file.now.replication min live }
+    {
+        let replication = u64::from(file.replication);
+        let none = live == 0;
+        Standing {
+            safe: u64::from(file.closed & (u64::from(min) <= live)),
+            missing: u64::from(file.closed & none),
+            missing_of_one: u64::from(file.closed & (none & (replication == 1))),
+            under_replicated: u64::from(file.closed & (live < replication)),
+            over_replicated: u64::from(file.closed & (replication < live)),
+        }
+    }
 }
 
 // How many DataNodes are to delete what they have.

@@ -1,6 +1,8 @@
 //! What an operator reads of a table.
 ghost use Rattle.std.specs.Prelude.{◌≡◌, ◌+◌, ◌-◌};
-ghost use Rattle.nn_replicas.specs.Figures.{no_figures, replaced, Changes, MayReplace};
+ghost use Rattle.nn_replicas.specs.Figures.{no_figures, replaced, restood, Changes, MayReplace, MayRestand};
+
+use crate::entry::Standing;
 
 /// How many blocks, replicas and orders of each kind a table has.
 #[derive(Clone, Copy, Debug, PartialEq, Eq)]
@@ -80,9 +82,21 @@ impl Figures {
             places: changed(self.places, was.places, is.places),
         }
     }
+
+    // The same once a block that stood so stands so now.
+    pub(crate) fn restand(&mut self, was: &Standing, is: &Standing)
+        requires { MayRestand self.old was.now is.now }
+        ensures { self.new ≡ restood self.old was.now is.now }
+    {
+        self.safe = changed(self.safe, was.safe, is.safe);
+        self.missing = changed(self.missing, was.missing, is.missing);
+        self.missing_of_one = changed(self.missing_of_one, was.missing_of_one, is.missing_of_one);
+        self.under_replicated = changed(self.under_replicated, was.under_replicated, is.under_replicated);
+        self.over_replicated = changed(self.over_replicated, was.over_replicated, is.over_replicated);
+    }
 }
 
-fn changed(all: u64, was: u64, is: u64) -> u64
+pub(crate) fn changed(all: u64, was: u64, is: u64) -> u64
     requires { Changes all was is }
     ensures { result ≡ (all - was) + is }
 {

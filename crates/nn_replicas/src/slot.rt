@@ -1,8 +1,8 @@
 //! A DataNode that was placed at a block, and its cell.
-ghost use Rattle.std.specs.Prelude.{◌≡◌};
-ghost use Rattle.nn_replicas.specs.Entry.{no_cell, cell_put, cell_erased, cell_retired};
+ghost use Rattle.std.specs.Prelude.{◌≡◌, Some, IfNone, IfSome};
+ghost use Rattle.nn_replicas.specs.Entry.{no_cell, cell_told, cell_retired};
 
-use crate::entry::Cell;
+use crate::entry::{Cell, Change, Told};
 use nn_types::{GenerationStamp, Kind, Length, Replica};
 use std::marker::Model;
 
@@ -71,28 +71,30 @@ impl Slot {
         }
     }
 
-    // Sets a replica where the block is named, an order where it is not.
-    pub fn put(&mut self, named: bool, replica: Replica)
-        ensures { self.new ≡ (self.old.0, cell_put named replica self.old.1) }
+    // Writes what is said of the DataNode: where the block is named as a replica, else as an order. Answers none where it was so
+    // already.
+    pub fn write(&mut self, named: bool, told: Told) -> Option<Change>
+        ensures cell { self.new ≡ (self.old.0, cell_told named told self.old.1) }
+        ensures same { IfNone result (self.new ≡ self.old) }
+        ensures change { IfSome result (λ change. change ≡ record { was = Some self.old.1; is = self.new.1 }) }
     {
-        if named {
-            self.kind = Some(replica.kind);
-            self.stamp = replica.stamp;
-            self.len = replica.len;
-        } else {
-            self.ordered = true;
+        let was = self.cell();
+        match told {
+            Told::Room => return None,
+            Told::Has(replica) if named => {
+                self.kind = Some(replica.kind);
+                self.stamp = replica.stamp;
+                self.len = replica.len;
+            }
+            Told::Has(_) => self.ordered = true,
+            Told::HasNone if named => self.kind = None,
+            Told::HasNone => self.ordered = false,
         }
-    }
-
-    // Takes away the replica where the block is named, the order where it is not.
-    pub fn erase(&mut self, named: bool)
-        ensures { self.new ≡ (self.old.0, cell_erased named self.old.1) }
-    {
-        if named {
-            self.kind = None;
-        } else {
-            self.ordered = false;
+        let is = self.cell();
+        if was == is {
+            return None;
         }
+        Some(Change { was: Some(was), is })
     }
 
     // Turns a replica into an order.

@@ -136,17 +136,15 @@ impl Replicas {
         let _recalled = self.entries.len();
         let Some(entry) = self.entries.get_mut(&block) else {
             let mut entry = Entry::new(self.alloc);
-            entry.place(dn)?;
+            let _placed = entry.place(dn)?;
             self.add(block, entry)?;
             return Ok(());
         };
         if !has_room(&self.figures, entry, dn) {
             return Err(AllocError);
         }
-        let was = entry.figures(self.min);
-        entry.place(dn)?;
-        let is = entry.figures(self.min);
-        self.figures = self.figures.replaced(&was, &is);
+        let change = entry.place(dn)?;
+        entry.recount(self.min, &mut self.figures, change);
         Ok(())
     }
 
@@ -164,17 +162,15 @@ impl Replicas {
         let _recalled = self.entries.len();
         let Some(entry) = self.entries.get_mut(&block) else {
             let mut entry = Entry::new(self.alloc);
-            entry.put(dn, replica)?;
+            let _put = entry.put(dn, replica)?;
             self.add(block, entry)?;
             return Ok(());
         };
         if !has_room(&self.figures, entry, dn) {
             return Err(AllocError);
         }
-        let was = entry.figures(self.min);
-        entry.put(dn, replica)?;
-        let is = entry.figures(self.min);
-        self.figures = self.figures.replaced(&was, &is);
+        let change = entry.put(dn, replica)?;
+        entry.recount(self.min, &mut self.figures, change);
         Ok(())
     }
 
@@ -187,10 +183,8 @@ impl Replicas {
         let Some(entry) = self.entries.get_mut(&block) else {
             return;
         };
-        let was = entry.figures(self.min);
-        entry.erase(dn);
-        let is = entry.figures(self.min);
-        self.figures = self.figures.replaced(&was, &is);
+        let change = entry.erase(dn);
+        entry.recount(self.min, &mut self.figures, change);
     }
 
     /// Makes room for what a DataNode says of a block, as `place` does. Where a file holds the block with at least this
@@ -215,18 +209,16 @@ impl Replicas {
         let _recalled = self.entries.len();
         let Some(entry) = self.entries.get_mut(&block) else {
             let mut entry = Entry::new(self.alloc);
-            entry.place(dn)?;
+            let _placed = entry.place(dn)?;
             self.add(block, entry)?;
             return Ok(None);
         };
         if !has_room(&self.figures, entry, dn) {
             return Err(AllocError);
         }
-        let was = entry.figures(self.min);
         let named = entry.stamp();
-        entry.tell_due(dn, stamp, replica)?;
-        let is = entry.figures(self.min);
-        self.figures = self.figures.replaced(&was, &is);
+        let change = entry.tell_due(dn, stamp, replica)?;
+        entry.recount(self.min, &mut self.figures, change);
         Ok(named)
     }
 

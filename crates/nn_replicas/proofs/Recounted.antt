@@ -1,77 +1,135 @@
 -- The figures of a table after one cell of one of its entries changed.
-use Rattle.std.proofs.Common.{◌≡◌, ℕ, ◌+◌, ◌-◌, ◌<◌, ◌≤◌, ◌^◌, Bool, true, false, cond, not, List, length, Option, Some, None, is_some, is_none, refl, sym, ap, subst, ◌∙◌, arith, nat_cmp}
-use Rattle.std.specs.Option.{option_map}
+use Rattle.std.proofs.Common.{◌≡◌, ℕ, ◌+◌, ◌-◌, ◌<◌, ◌≤◌, ◌^◌, Bool, true, false, cond, List, [], ◌∷◌, length, count_by, Option, Some, None, is_some, inl, inr, refl, sym, ap, subst, ◌∙◌, arith, nat_cmp}
+use Rattle.std.proofs.Math.Bool.{beq}
 use Rattle.std.specs.FinMap.Entries.{find, put, is_sorted}
-use Rattle.nn_types.specs.declared.block.Block.{Block}
+use Rattle.std.specs.Ordering.{is_eq}
+use Rattle.std.proofs.lemmas.List.Sums.{count_by-le-length}
 use Rattle.nn_types.specs.declared.replica.Class.{Class}
 use Rattle.nn_types.specs.declared.replica.Class.TheVariants.{Stale, Ahead, Live, WrongLength}
-use Rattle.nn_model.specs.Counts.{class_of, is_live}
+use Rattle.nn_model.specs.Counts.{is_live}
+use Rattle.nn_model.specs.declared.form.BlockRow.{BlockRow}
 use Rattle.nn_replicas.specs.declared.entry.Cell.{Cell}
 use Rattle.nn_replicas.specs.declared.entry.Change.{Change}
-use Rattle.nn_replicas.specs.declared.entry.Classes.{Classes}
 use Rattle.nn_replicas.specs.declared.entry.FileBlock.{FileBlock}
 use Rattle.nn_replicas.specs.declared.entry.Standing.{Standing}
 use Rattle.nn_replicas.specs.declared.figures.Figures.{Figures}
 use Rattle.nn_replicas.specs.Table.{BlockEntry}
-use Rattle.nn_replicas.specs.Entry.{row_of, replication_of, is_ordered, with_cell, live_cells, IsChange}
-use Rattle.nn_replicas.specs.Figures.{is_class, class_told, cells_of, figures_in, no_classes, with_class, standing_of, replaced, restood, one_if, Changes, MayReplace, MayRestand}
-use Rattle.nn_replicas.proofs.Entries.{weight, counted, counted_put, summed_there, length_put}
+use Rattle.nn_replicas.specs.Entry.{row_of, with_cell, live_cells}
+use Rattle.nn_replicas.specs.Figures.{is_class, class_by_row, part_of, IsChangedPart, IsChange, figures_in, standing_of, replaced, recounted, restood, one_if, Changes, MayReplace, MayRecount, MayRestand}
+use Rattle.nn_replicas.proofs.Entries.{weight, counted, counted_cons, counted_put, summed_there, length_put}
 use Rattle.nn_replicas.proofs.Classed.{live_are}
 use Rattle.nn_replicas.proofs.Told.{found_put}
-use Rattle.std.proofs.lemmas.List.Sums.{count_by-le-length}
 use Rattle.nn_replicas.proofs.Written.{Cells, entry}
 
--- ---- the entry before the change
+-- ---- the figures of one block, by the file that holds it
 
-pub before : (e now : BlockEntry) (file : Option FileBlock) (xs : Cells) (dn : ℕ) (is : Cell) → entry file xs ≡ now → now ≡ with_cell e dn is → e ≡ entry file e.cells
-before e now file xs dn is v h = λ i. record { row = ap (λ y. y.row) (sym (v ∙ h)) i; replication = ap (λ y. y.replication) (sym (v ∙ h)) i; cells = e.cells }
+abbrev pub has : Option FileBlock → Class → Cell → Bool
+has file class c = is_class class (class_by_row (row_of file) c)
 
-pub behind : (e now : BlockEntry) (file : Option FileBlock) (xs : Cells) (dn : ℕ) (is : Cell) → entry file xs ≡ now → now ≡ with_cell e dn is → xs ≡ put nat_cmp dn is e.cells
-behind e now file xs dn is v h = ap (λ y. y.cells) (v ∙ h)
+abbrev pub stands : ℕ → Option FileBlock → Cells → Standing
+stands min None xs = record { safe = 0; missing = 0; missing_of_one = 0; under_replicated = 0; over_replicated = 0 }
+stands min (Some file) xs = standing_of file.closed file.replication min (live_cells file.block xs)
+
+abbrev pub is_closed_by : Option FileBlock → Bool
+is_closed_by None = false
+is_closed_by (Some file) = file.closed
+
+abbrev pub adds : ℕ → Option FileBlock → Cells → Figures
+adds min file xs = record {
+  blocks = one_if (is_some file);
+  total = one_if (is_closed_by file);
+  safe = (stands min file xs).safe;
+  missing = (stands min file xs).missing;
+  missing_of_one = (stands min file xs).missing_of_one;
+  under_replicated = (stands min file xs).under_replicated;
+  over_replicated = (stands min file xs).over_replicated;
+  stale = counted (has file Stale) xs;
+  ahead = counted (has file Ahead) xs;
+  wrong_length = counted (has file WrongLength) xs;
+  orders = counted (λ c. c.ordered) xs;
+  places = length xs;
+}
+
+none_counted : (xs : Cells) → 0 ≡ counted (λ (c : Cell). false) xs
+none_counted [] = refl
+none_counted (x ∷ xs) = omega (arith, counted_cons (λ (c : Cell). false) x xs, none_counted xs)
+
+adds_are : (min : ℕ) (file : Option FileBlock) (xs : Cells) → figures_in min (entry file xs) ≡ adds min file xs
+adds_are min None xs = λ i. record {
+  blocks = 0;
+  total = 0;
+  safe = 0;
+  missing = 0;
+  missing_of_one = 0;
+  under_replicated = 0;
+  over_replicated = 0;
+  stale = none_counted xs i;
+  ahead = none_counted xs i;
+  wrong_length = none_counted xs i;
+  orders = counted (λ (c : Cell). c.ordered) xs;
+  places = length xs;
+}
+adds_are min (Some file) xs = refl
+
+stands_by : (min : ℕ) (file : Option FileBlock) (xs ys : Cells) → counted (has file Live) xs ≡ counted (has file Live) ys → stands min file xs ≡ stands min file ys
+stands_by min None xs ys k = refl
+stands_by min (Some file) xs ys k = ap (standing_of file.closed file.replication min) (sym (live_are file.block xs) ∙ k ∙ live_are file.block ys)
+
+-- of an open file nothing is counted
+pub stands_open : (min : ℕ) (file : FileBlock) (xs ys : Cells) → file.closed ≡ false → stands min (Some file) xs ≡ stands min (Some file) ys
+stands_open min file xs ys k =
+    ap (λ b. standing_of b file.replication min (live_cells file.block xs)) k ∙ sym (ap (λ b. standing_of b file.replication min (live_cells file.block ys)) k)
+
+-- the live replicas before a change, from those behind it
+pub live_before : (file : FileBlock) (xs ys : Cells) (n a b : ℕ) → n ≡ live_cells file.block ys → a ≤ counted (has (Some file) Live) ys
+    → counted (has (Some file) Live) ys + b ≡ counted (has (Some file) Live) xs + a → (a ≤ n) × ((n - a) + b ≡ live_cells file.block xs)
+live_before file xs ys n a b h there moved =
+    let x = live_are file.block xs in
+    let y = live_are file.block ys in
+    (omega (arith, h, there, y), omega (arith, h, there, moved, x, y))
 
 -- ---- one figure
 
 kept : (a w : ℕ) → w ≤ a → a ≡ (a - w) + w
 kept a w h = omega (arith, h)
 
-class_weight : (class : Class) (b : Block) (o : Option Cell) → weight (λ c. is_class class (option_map (λ r. class_of r b) c.replica)) o ≡ one_if (is_class class (class_told b o))
-class_weight class b None = refl
-class_weight class b (Some c) = refl
+same : (a w i : ℕ) → w ≤ a → w ≡ i → a ≡ (a - w) + i
+same a w i h k = omega (arith, h, k)
 
-order_weight : (o : Option Cell) → weight (λ c. c.ordered) o ≡ one_if (is_ordered o)
-order_weight None = refl
-order_weight (Some c) = refl
+class_weight : (row : Option BlockRow) (class : Class) (o : Option Cell) → weight (λ c. is_class class (class_by_row row c)) o ≡ one_if (is_class class (part_of row o).class)
+class_weight row class None = refl
+class_weight row class (Some c) = refl
 
--- one more place, where there was none
-pub place_if : (o : Option Cell) (b : Bool) (n : ℕ) → is_some o ≡ not b → n ≡ one_if b → n ≡ one_if (is_none o)
-place_if None true n h k = k
-place_if None false n h k = cc
-place_if (Some c) true n h k = cc
-place_if (Some c) false n h k = k
+order_weight : (row : Option BlockRow) (o : Option Cell) → weight (λ c. c.ordered) o ≡ one_if (part_of row o).ordered
+order_weight row None = refl
+order_weight row (Some c) = refl
 
-none_weight : (o : Option Cell) → one_if (is_none o) + cond (is_some o) 1 0 ≡ 1
-none_weight None = refl
-none_weight (Some c) = refl
+place_weight : (row : Option BlockRow) (o : Option Cell) → cond {A = ℕ} (is_some o) 1 0 ≡ one_if (part_of row o).placed
+place_weight row None = refl
+place_weight row (Some c) = refl
 
-module _ (dn : ℕ) (cells : Cells) (was : Option Cell) (is : Cell) (s : is_sorted nat_cmp cells ≡ true) (found : was ≡ find nat_cmp dn cells) where
-  abbrev pub now : Cells
-  now = put nat_cmp dn is cells
+-- who has a cell is counted
+place_there : (dn : ℕ) (xs : Cells) → cond {A = ℕ} (is_some (find nat_cmp dn xs)) 1 0 ≤ length xs
+place_there dn [] = omega arith
+place_there dn (x ∷ xs) =
+    elim (is_eq (nat_cmp dn x.0)) as (λ b. cond {A = ℕ} (is_some (cond b (Some x.1) (find nat_cmp dn xs))) 1 0 ≤ length (x ∷ xs)) [ true ↦ omega arith | false ↦ omega (arith, place_there dn xs) ]
 
-  module _ (p : Cell → Bool) (a x y : ℕ) (may : Changes a (counted p cells) (counted p now)) (i : x ≡ weight p was) (j : y ≡ cond (p is) 1 0) where
-    moved : counted p now + x ≡ counted p cells + y
-    moved = (let put = counted_put p dn is cells s in let k = ap (weight p) found in omega (arith, put, k, i, j))
+-- one cell was put
+module _ (dn : ℕ) (cells : Cells) (c : Cell) (s : is_sorted nat_cmp cells ≡ true) (p : Cell → Bool) (a x y : ℕ)
+    (may : Changes a (counted p cells) (counted p (put nat_cmp dn c cells))) (i : x ≡ weight p (find nat_cmp dn cells)) (j : y ≡ cond (p c) 1 0) where
+  pub moved : counted p (put nat_cmp dn c cells) + x ≡ counted p cells + y
+  moved = omega (arith, counted_put p dn c cells s, i, j)
 
-    there : x ≤ counted p cells
-    there = (let most = summed_there (λ c. cond (p c) 1 0) dn cells in let k = ap (weight p) found in omega (arith, most, k, i))
+  there : x ≤ counted p cells
+  there = omega (arith, summed_there (λ z. cond (p z) 1 0) dn cells, i)
 
-    pub part_may : Changes a x y
-    part_may = (omega (arith, there, may.0), omega (arith, there, moved, may.0, may.1))
+  pub part_may : Changes a x y
+  part_may = (omega (arith, there, may.0), omega (arith, there, moved, may.0, may.1))
 
-    pub part_is : (r : ℕ) → r ≡ (a - x) + y → r ≡ (a - counted p cells) + counted p now
-    part_is r h = omega (arith, there, moved, may.0, h)
+  pub part_is : (a - x) + y ≡ (a - counted p cells) + counted p (put nat_cmp dn c cells)
+  part_is = omega (arith, there, moved, may.0)
 
-  pub places_grow : (n : ℕ) → n ≡ one_if (is_none was) → length now ≡ length cells + n
-  places_grow n h = (let put = length_put dn is cells s in let k : cond {A = ℕ} (is_some was) 1 0 ≡ cond (is_some (find nat_cmp dn cells)) 1 0 = ap (λ o. cond (is_some o) 1 0) found in omega (arith, put, k, h, none_weight was))
+-- ---- all of them
 
 -- nothing changed
 pub unchanged : (min : ℕ) (all : Figures) (e is : BlockEntry) → is ≡ e → MayReplace all (figures_in min e) (figures_in min is) → all ≡ replaced all (figures_in min e) (figures_in min is)
@@ -92,161 +150,161 @@ unchanged min all e is h m =
     })
     ∙ ap (λ y. replaced all (figures_in min e) (figures_in min y)) (sym h)
 
--- ---- all of them
+-- the DataNode adds as much as before
+pub recounts_nothing : (all : Figures) (change : Change) → MayRecount all change → change.was ≡ change.is → all ≡ recounted all change
+recounts_nothing all change m h =
+    (λ z. record all {
+      stale = kept all.stale _ m.stale.0 z;
+      ahead = kept all.ahead _ m.ahead.0 z;
+      wrong_length = kept all.wrong_length _ m.wrong_length.0 z;
+      orders = kept all.orders _ m.orders.0 z;
+      places = kept all.places _ m.places.0 z;
+    })
+    ∙ ap (λ is. recounted all (record { was = change.was; is = is })) h
 
-module _ (min dn : ℕ) (change : Change) (all : Figures) (e is : BlockEntry) (xs : Cells)
-    (h : IsChange e dn is (Some change)) (s : is_sorted nat_cmp e.cells ≡ true) (m : MayReplace all (figures_in min e) (figures_in min is)) where
+module _ (min dn : ℕ) (all : Figures) (e is : BlockEntry) (xs : Cells) (file : Option FileBlock) (v : entry file xs ≡ is) (c : Cell) (h : is ≡ with_cell e dn c)
+    (s : is_sorted nat_cmp e.cells ≡ true) (m : MayReplace all (figures_in min e) (figures_in min is))
+    (change : Change) (part : IsChangedPart e.row (find nat_cmp dn e.cells) c (Some change)) where
   abbrev pub after : Cells
-  after = put nat_cmp dn change.is e.cells
+  after = put nat_cmp dn c e.cells
 
-  module _ (file : Option FileBlock) (v : entry file xs ≡ is) where
-    was_so : e ≡ entry file e.cells
-    was_so = before e is file xs dn change.is v h.1
+  was_so : e ≡ entry file e.cells
+  was_so = λ i. record { row = ap (λ y. y.row) (sym (v ∙ h)) i; replication = ap (λ y. y.replication) (sym (v ∙ h)) i; cells = e.cells }
 
-    is_so : is ≡ entry file after
-    is_so = sym v ∙ ap (entry file) (behind e is file xs dn change.is v h.1)
+  pub cells_so : xs ≡ after
+  cells_so = ap (λ y. y.cells) (v ∙ h)
 
-    pub at : MayReplace all (figures_in min (entry file e.cells)) (figures_in min (entry file after))
-    at = subst (λ y. MayReplace all (figures_in min (entry file e.cells)) (figures_in min y)) is_so (subst (λ y. MayReplace all (figures_in min y) (figures_in min is)) was_so m)
+  was_adds : figures_in min e ≡ adds min file e.cells
+  was_adds = ap (figures_in min) was_so ∙ adds_are min file e.cells
 
-    back : replaced all (figures_in min (entry file e.cells)) (figures_in min (entry file after)) ≡ replaced all (figures_in min e) (figures_in min is)
-    back = ap (λ y. replaced all (figures_in min y) (figures_in min (entry file after))) (sym was_so) ∙ ap (λ y. replaced all (figures_in min e) (figures_in min y)) (sym is_so)
+  is_adds : figures_in min is ≡ adds min file after
+  is_adds = ap (figures_in min) (sym v ∙ ap (entry file) cells_so) ∙ adds_are min file after
 
-    places_are : (n : ℕ) → n ≡ one_if (is_none change.was) → all.places + n ≡ (all.places - length e.cells) + length after
-    places_are n i = omega (arith, at.places.0, places_grow dn e.cells change.was change.is s h.0 n i)
+  pub at : MayReplace all (adds min file e.cells) (adds min file after)
+  at = subst (λ f. MayReplace all (adds min file e.cells) f) is_adds (subst (λ f. MayReplace all f (figures_in min is)) was_adds m)
 
-    pub place_fits : (n : ℕ) → n ≡ one_if (is_none change.was) → all.places + n < 2 ^ 64
-    place_fits n i = omega (arith, at.places.1, places_are n i)
+  back : replaced all (adds min file e.cells) (adds min file after) ≡ replaced all (figures_in min e) (figures_in min is)
+  back = ap (λ f. replaced all f (adds min file after)) (sym was_adds) ∙ ap (λ f. replaced all (figures_in min e) f) (sym is_adds)
 
-    pub orders_may : (x y : ℕ) → x ≡ one_if (is_ordered change.was) → y ≡ one_if change.is.ordered → Changes all.orders x y
-    orders_may x y i j = part_may dn e.cells change.was change.is s h.0 (λ c. c.ordered) all.orders x y at.orders (i ∙ sym (order_weight change.was)) j
+  was_part : change.was ≡ part_of (row_of file) (find nat_cmp dn e.cells)
+  was_part = part.0 ∙ ap (λ (y : BlockEntry). part_of y.row (find nat_cmp dn e.cells)) was_so
 
-    orders_are : (x y r : ℕ) → x ≡ one_if (is_ordered change.was) → y ≡ one_if change.is.ordered → r ≡ (all.orders - x) + y
-        → r ≡ (all.orders - counted (λ (c : Cell). c.ordered) e.cells) + counted (λ (c : Cell). c.ordered) after
-    orders_are x y r i j k = part_is dn e.cells change.was change.is s h.0 (λ c. c.ordered) all.orders x y at.orders (i ∙ sym (order_weight change.was)) j r k
+  is_part : change.is ≡ part_of (row_of file) (Some c)
+  is_part = part.1 ∙ ap (λ (y : BlockEntry). part_of y.row (Some c)) was_so
 
-  -- of a block that no file holds
-  pub without_row : entry None xs ≡ is → (n x y r : ℕ) → n ≡ one_if (is_none change.was) → x ≡ one_if (is_ordered change.was) → y ≡ one_if change.is.ordered → r ≡ (all.orders - x) + y
-      → record all { orders = r; places = all.places + n } ≡ replaced all (figures_in min e) (figures_in min is)
-  without_row v n x y r i j k l =
-      (λ z. record {
-        blocks = kept all.blocks 0 (omega arith) z;
-        total = kept all.total 0 (omega arith) z;
-        safe = kept all.safe 0 (omega arith) z;
-        missing = kept all.missing 0 (omega arith) z;
-        missing_of_one = kept all.missing_of_one 0 (omega arith) z;
-        under_replicated = kept all.under_replicated 0 (omega arith) z;
-        over_replicated = kept all.over_replicated 0 (omega arith) z;
-        stale = kept all.stale 0 (omega arith) z;
-        ahead = kept all.ahead 0 (omega arith) z;
-        wrong_length = kept all.wrong_length 0 (omega arith) z;
-        orders = orders_are None v x y r j k l z;
-        places = places_are None v n i z;
-      }) ∙ back None v
+  was_class : (class : Class) → one_if (is_class class change.was.class) ≡ weight (has file class) (find nat_cmp dn e.cells)
+  was_class class = ap (λ q. one_if (is_class class q.class)) was_part ∙ sym (class_weight (row_of file) class (find nat_cmp dn e.cells))
 
-  module _ (file : FileBlock) (v : entry (Some file) xs ≡ is) where
-    abbrev pub has : Class → Cell → Bool
-    has class c = is_class class (option_map (λ r. class_of r file.block) c.replica)
+  is_class_now : (class : Class) → one_if (is_class class change.is.class) ≡ one_if (has file class c)
+  is_class_now class = ap (λ q. one_if (is_class class q.class)) is_part
 
-    abbrev pub tells : Class → Option Cell → ℕ
-    tells class o = one_if (is_class class (class_told file.block o))
+  was_order : one_if change.was.ordered ≡ weight (λ c. c.ordered) (find nat_cmp dn e.cells)
+  was_order = ap (λ q. one_if q.ordered) was_part ∙ sym (order_weight (row_of file) (find nat_cmp dn e.cells))
 
-    module _ (class : Class) (a x y : ℕ) (may : Changes a (cells_of class file.block e.cells) (cells_of class file.block after)) (i : x ≡ tells class change.was) (j : y ≡ tells class (Some change.is)) where
-      pub class_may : Changes a x y
-      class_may = part_may dn e.cells change.was change.is s h.0 (has class) a x y may (i ∙ sym (class_weight class file.block change.was)) j
+  was_place : one_if change.was.placed ≡ cond {A = ℕ} (is_some (find nat_cmp dn e.cells)) 1 0
+  was_place = ap (λ q. one_if q.placed) was_part ∙ sym (place_weight (row_of file) (find nat_cmp dn e.cells))
 
-      pub class_is : (r : ℕ) → r ≡ (a - x) + y → r ≡ (a - cells_of class file.block e.cells) + cells_of class file.block after
-      class_is r k = part_is dn e.cells change.was change.is s h.0 (has class) a x y may (i ∙ sym (class_weight class file.block change.was)) j r k
+  is_place : one_if change.is.placed ≡ 1
+  is_place = ap (λ q. one_if q.placed) is_part
 
-    module _ (x y : ℕ) (i : x ≡ tells Live change.was) (j : y ≡ tells Live (Some change.is)) where
-      lived : cells_of Live file.block after + x ≡ cells_of Live file.block e.cells + y
-      lived = (let put = counted_put (has Live) dn change.is e.cells s in let k = ap (weight (has Live)) h.0 in let w = class_weight Live file.block change.was in omega (arith, put, k, w, i, j))
+  pub may_recount : MayRecount all change
+  may_recount = record {
+    stale = part_may dn e.cells c s (has file Stale) all.stale _ _ at.stale (was_class Stale) (is_class_now Stale);
+    ahead = part_may dn e.cells c s (has file Ahead) all.ahead _ _ at.ahead (was_class Ahead) (is_class_now Ahead);
+    wrong_length = part_may dn e.cells c s (has file WrongLength) all.wrong_length _ _ at.wrong_length (was_class WrongLength) (is_class_now WrongLength);
+    orders = part_may dn e.cells c s (λ z. z.ordered) all.orders _ _ at.orders was_order (ap (λ q. one_if q.ordered) is_part);
+    places = (
+      omega (arith, length_put dn c e.cells s, place_there dn e.cells, was_place, is_place, at.places.0),
+      omega (arith, length_put dn c e.cells s, place_there dn e.cells, was_place, is_place, at.places.0, at.places.1),
+    );
+  }
 
-      -- where no live replica came or went
-      live_same : x ≡ y → live_cells file.block e.cells ≡ live_cells file.block after
-      live_same k = (let a = live_are file.block e.cells in let b = live_are file.block after in omega (arith, a, b, lived, k))
+  module _ (r : Figures) (counts : r ≡ recounted all change) where
+    -- where the block stands as before
+    pub recounts : stands min file e.cells ≡ stands min file after → r ≡ replaced all (figures_in min e) (figures_in min is)
+    recounts k =
+        counts
+        ∙ (λ z. record {
+          blocks = kept all.blocks _ at.blocks.0 z;
+          total = kept all.total _ at.total.0 z;
+          safe = same all.safe _ _ at.safe.0 (ap (λ t. t.safe) k) z;
+          missing = same all.missing _ _ at.missing.0 (ap (λ t. t.missing) k) z;
+          missing_of_one = same all.missing_of_one _ _ at.missing_of_one.0 (ap (λ t. t.missing_of_one) k) z;
+          under_replicated = same all.under_replicated _ _ at.under_replicated.0 (ap (λ t. t.under_replicated) k) z;
+          over_replicated = same all.over_replicated _ _ at.over_replicated.0 (ap (λ t. t.over_replicated) k) z;
+          stale = part_is dn e.cells c s (has file Stale) all.stale _ _ at.stale (was_class Stale) (is_class_now Stale) z;
+          ahead = part_is dn e.cells c s (has file Ahead) all.ahead _ _ at.ahead (was_class Ahead) (is_class_now Ahead) z;
+          wrong_length = part_is dn e.cells c s (has file WrongLength) all.wrong_length _ _ at.wrong_length (was_class WrongLength) (is_class_now WrongLength) z;
+          orders = part_is dn e.cells c s (λ y. y.ordered) all.orders _ _ at.orders was_order (ap (λ q. one_if q.ordered) is_part) z;
+          places = places_are z;
+        })
+        ∙ back
+      where
+        places_are : (all.places - one_if change.was.placed) + one_if change.is.placed ≡ (all.places - length e.cells) + length after
+        places_are = omega (arith, length_put dn c e.cells s, place_there dn e.cells, was_place, is_place, at.places.0)
 
-      -- the live replicas before the change, from those behind it
-      pub live_before : (n : ℕ) → n ≡ live_cells file.block xs → (y ≤ n) × ((n - y) + x ≡ live_cells file.block e.cells)
-      live_before n l =
-          let cells = ap (live_cells file.block) (behind e is (Some file) xs dn change.is v h.1) in
-          let a = live_are file.block e.cells in
-          let b = live_are file.block after in
-          let most = summed_there (λ c. cond (has Live c) 1 0) dn after in
-          let k = ap (weight (has Live)) (found_put dn change.is e.cells) in
-          (omega (arith, b, most, k, j, l, cells), omega (arith, a, b, lived, most, k, j, l, cells))
+    module _ (stood stand : Standing) (so : stood ≡ stands min file e.cells) (st : stand ≡ stands min file after) where
+      pub may_restand : MayRestand r stood stand
+      may_restand =
+          subst (λ f. MayRestand f stood stand) (sym counts) (subst (λ z. MayRestand (recounted all change) stood z) (sym st) (subst (λ z. MayRestand (recounted all change) z (stands min file after)) (sym so) (record {
+            safe = at.safe;
+            missing = at.missing;
+            missing_of_one = at.missing_of_one;
+            under_replicated = at.under_replicated;
+            over_replicated = at.over_replicated;
+          })))
 
-      pub live_fits : (n : ℕ) → n ≡ live_cells file.block xs → (n - y) + x ≤ all.places
-      live_fits n l =
-          let most = count_by-le-length (λ (c : ℕ × Cell). is_live c.1.replica file.block) e.cells in
-          omega (arith, most, (live_before n l).1, (at (Some file) v).places.0)
+      pub restands : restood r stood stand ≡ replaced all (figures_in min e) (figures_in min is)
+      restands =
+          ap (λ f. restood f stood stand) counts ∙ ap (λ z. restood (recounted all change) z stand) so ∙ ap (restood (recounted all change) (stands min file e.cells)) st
+          ∙ (λ z. record {
+            blocks = kept all.blocks _ at.blocks.0 z;
+            total = kept all.total _ at.total.0 z;
+            safe = (all.safe - (stands min file e.cells).safe) + (stands min file after).safe;
+            missing = (all.missing - (stands min file e.cells).missing) + (stands min file after).missing;
+            missing_of_one = (all.missing_of_one - (stands min file e.cells).missing_of_one) + (stands min file after).missing_of_one;
+            under_replicated = (all.under_replicated - (stands min file e.cells).under_replicated) + (stands min file after).under_replicated;
+            over_replicated = (all.over_replicated - (stands min file e.cells).over_replicated) + (stands min file after).over_replicated;
+            stale = part_is dn e.cells c s (has file Stale) all.stale _ _ at.stale (was_class Stale) (is_class_now Stale) z;
+            ahead = part_is dn e.cells c s (has file Ahead) all.ahead _ _ at.ahead (was_class Ahead) (is_class_now Ahead) z;
+            wrong_length = part_is dn e.cells c s (has file WrongLength) all.wrong_length _ _ at.wrong_length (was_class WrongLength) (is_class_now WrongLength) z;
+            orders = part_is dn e.cells c s (λ y. y.ordered) all.orders _ _ at.orders was_order (ap (λ q. one_if q.ordered) is_part) z;
+            places = places_are z;
+          })
+          ∙ back
+        where
+          places_are : (all.places - one_if change.was.placed) + one_if change.is.placed ≡ (all.places - length e.cells) + length after
+          places_are = omega (arith, length_put dn c e.cells s, place_there dn e.cells, was_place, is_place, at.places.0)
 
-    -- what the code counted
-    module _ (n x y orders : ℕ) (i : n ≡ one_if (is_none change.was)) (j : x ≡ one_if (is_ordered change.was)) (k : y ≡ one_if change.is.ordered) (l : orders ≡ (all.orders - x) + y)
-        (w c : Classes) (wc : w ≡ with_class no_classes (class_told file.block change.was)) (cc : c ≡ with_class no_classes (class_told file.block (Some change.is)))
-        (stale ahead wrong_length : ℕ) (a : stale ≡ (all.stale - w.stale) + c.stale) (b : ahead ≡ (all.ahead - w.ahead) + c.ahead) (d : wrong_length ≡ (all.wrong_length - w.wrong_length) + c.wrong_length) where
-      abbrev counts : Figures
-      counts = record all { stale = stale; ahead = ahead; wrong_length = wrong_length; orders = orders; places = all.places + n }
+  -- the live replicas before the change, and behind it
+  pub live_moved : counted (has file Live) after + one_if (is_class Live change.was.class) ≡ counted (has file Live) e.cells + one_if (is_class Live change.is.class)
+  live_moved = omega (arith, counted_put (has file Live) dn c e.cells s, was_class Live, is_class_now Live)
 
-      stale_is : stale ≡ (all.stale - cells_of Stale file.block e.cells) + cells_of Stale file.block after
-      stale_is = class_is Stale all.stale w.stale c.stale (at (Some file) v).stale (let k = ap (λ z. z.stale) wc in omega (arith, k)) (let k = ap (λ z. z.stale) cc in omega (arith, k)) stale a
+  pub live_there : one_if (is_class Live change.is.class) ≤ counted (has file Live) after
+  live_there = (let most = summed_there (λ z. cond (has file Live z) 1 0) dn after in let k = ap (weight (has file Live)) (found_put dn c e.cells) in omega (arith, most, k, is_class_now Live))
 
-      ahead_is : ahead ≡ (all.ahead - cells_of Ahead file.block e.cells) + cells_of Ahead file.block after
-      ahead_is = class_is Ahead all.ahead w.ahead c.ahead (at (Some file) v).ahead (let k = ap (λ z. z.ahead) wc in omega (arith, k)) (let k = ap (λ z. z.ahead) cc in omega (arith, k)) ahead b
+  -- where no live replica came or went
+  pub stands_same : is_class Live change.was.class ≡ is_class Live change.is.class → stands min file e.cells ≡ stands min file after
+  stands_same k = stands_by min file e.cells after (let l = ap one_if k in omega (arith, live_moved, l))
 
-      wrong_is : wrong_length ≡ (all.wrong_length - cells_of WrongLength file.block e.cells) + cells_of WrongLength file.block after
-      wrong_is = class_is WrongLength all.wrong_length w.wrong_length c.wrong_length (at (Some file) v).wrong_length (let k = ap (λ z. z.wrong_length) wc in omega (arith, k)) (let k = ap (λ z. z.wrong_length) cc in omega (arith, k)) wrong_length d
+-- ---- as the code meets them
 
-      abbrev stands : ℕ → Standing
-      stands live = standing_of file.closed file.replication min live
+pub same_if : (a b : Bool) → beq a b ≡ true → a ≡ b
+same_if true true h = refl
+same_if true false h = cc
+same_if false true h = cc
+same_if false false h = refl
 
-      -- where no live replica came or went
-      pub with_row : w.live ≡ c.live → counts ≡ replaced all (figures_in min e) (figures_in min is)
-      with_row same =
-          let live = live_same w.live c.live (let k = ap (λ z. z.live) wc in omega (arith, k)) (let k = ap (λ z. z.live) cc in omega (arith, k)) same in
-          let may = at (Some file) v in
-          (λ z. record {
-            blocks = kept all.blocks 1 may.blocks.0 z;
-            total = kept all.total (one_if file.closed) may.total.0 z;
-            safe = (kept all.safe (stands (live_cells file.block e.cells)).safe may.safe.0 ∙ ap (λ t. (all.safe - (stands (live_cells file.block e.cells)).safe) + (stands t).safe) live) z;
-            missing = (kept all.missing (stands (live_cells file.block e.cells)).missing may.missing.0 ∙ ap (λ t. (all.missing - (stands (live_cells file.block e.cells)).missing) + (stands t).missing) live) z;
-            missing_of_one = (kept all.missing_of_one (stands (live_cells file.block e.cells)).missing_of_one may.missing_of_one.0 ∙ ap (λ t. (all.missing_of_one - (stands (live_cells file.block e.cells)).missing_of_one) + (stands t).missing_of_one) live) z;
-            under_replicated = (kept all.under_replicated (stands (live_cells file.block e.cells)).under_replicated may.under_replicated.0 ∙ ap (λ t. (all.under_replicated - (stands (live_cells file.block e.cells)).under_replicated) + (stands t).under_replicated) live) z;
-            over_replicated = (kept all.over_replicated (stands (live_cells file.block e.cells)).over_replicated may.over_replicated.0 ∙ ap (λ t. (all.over_replicated - (stands (live_cells file.block e.cells)).over_replicated) + (stands t).over_replicated) live) z;
-            stale = stale_is z;
-            ahead = ahead_is z;
-            wrong_length = wrong_is z;
-            orders = orders_are (Some file) v x y orders j k l z;
-            places = places_are (Some file) v n i z;
-          }) ∙ back (Some file) v
+pub changed_of : (e : BlockEntry) (dn : ℕ) (f : BlockEntry) (change : Change) → IsChange e dn f (Some change) → (c : Cell) × (f ≡ with_cell e dn c) × IsChangedPart e.row (find nat_cmp dn e.cells) c (Some change)
+changed_of e dn f change (inl h) = let no = h.1 in cc
+changed_of e dn f change (inr h) = h
 
-      module _ (stood stand : Standing) (so : stood ≡ stands (live_cells file.block e.cells)) (st : stand ≡ stands (live_cells file.block after)) where
-        pub may_restand : MayRestand counts stood stand
-        may_restand =
-            let may = at (Some file) v in
-            subst (λ z. MayRestand counts stood z) (sym st) (subst (λ z. MayRestand counts z (stands (live_cells file.block after))) (sym so) (record {
-              safe = may.safe;
-              missing = may.missing;
-              missing_of_one = may.missing_of_one;
-              under_replicated = may.under_replicated;
-              over_replicated = may.over_replicated;
-            }))
-
-        pub restands : restood counts stood stand ≡ replaced all (figures_in min e) (figures_in min is)
-        restands =
-            let may = at (Some file) v in
-            ap (λ z. restood counts z stand) so ∙ ap (restood counts (stands (live_cells file.block e.cells))) st
-            ∙ (λ z. record {
-              blocks = kept all.blocks 1 may.blocks.0 z;
-              total = kept all.total (one_if file.closed) may.total.0 z;
-              safe = (all.safe - (stands (live_cells file.block e.cells)).safe) + (stands (live_cells file.block after)).safe;
-              missing = (all.missing - (stands (live_cells file.block e.cells)).missing) + (stands (live_cells file.block after)).missing;
-              missing_of_one = (all.missing_of_one - (stands (live_cells file.block e.cells)).missing_of_one) + (stands (live_cells file.block after)).missing_of_one;
-              under_replicated = (all.under_replicated - (stands (live_cells file.block e.cells)).under_replicated) + (stands (live_cells file.block after)).under_replicated;
-              over_replicated = (all.over_replicated - (stands (live_cells file.block e.cells)).over_replicated) + (stands (live_cells file.block after)).over_replicated;
-              stale = stale_is z;
-              ahead = ahead_is z;
-              wrong_length = wrong_is z;
-              orders = orders_are (Some file) v x y orders j k l z;
-              places = places_are (Some file) v n i z;
-            }) ∙ back (Some file) v
+-- none is told: the DataNode adds as much as before
+pub none_told : (min dn : ℕ) (all : Figures) (e is : BlockEntry) (xs : Cells) (file : Option FileBlock) → entry file xs ≡ is → is_sorted nat_cmp e.cells ≡ true → IsChange e dn is None
+    → MayReplace all (figures_in min e) (figures_in min is) → all ≡ replaced all (figures_in min e) (figures_in min is)
+none_told min dn all e is xs file v s (inl h) m = unchanged min all e is h.0 m
+none_told min dn all e is xs file v s (inr h) m =
+    let change : Change = record { was = part_of e.row (find nat_cmp dn e.cells); is = part_of e.row (Some h.0) } in
+    let may = may_recount min dn all e is xs file v h.0 h.1 s m change (refl, refl) in
+    recounts min dn all e is xs file v h.0 h.1 s m change (refl, refl) all (recounts_nothing all change may (sym h.2))
+    (stands_same min dn all e is xs file v h.0 h.1 s m change (refl, refl) (ap (λ q. is_class Live q.class) (sym h.2)))

@@ -1,6 +1,6 @@
 -- An entry after one of its cells was written, or a new one inserted.
-use Rattle.std.proofs.Common.{◌≡◌, arith, ℕ, ◌<◌, ◌≤◌, ◌+◌, Bool, true, false, cond, List, [], ◌∷◌, ◌++◌, map, take, drop, length, get_or, set, Option, Some, None, is_some, refl, sym, ap, subst, ◌∙◌, nat_cmp, nat_eq}
-use Rattle.std.specs.Prelude.{unwrap_or, ◌&&◌, not, IfNone, IfSome}
+use Rattle.std.proofs.Common.{◌≡◌, arith, ℕ, ◌<◌, ◌≤◌, ◌+◌, Bool, true, false, cond, List, [], ◌∷◌, ◌++◌, map, take, drop, length, get_or, set, Option, Some, None, is_some, inr, refl, sym, ap, subst, ◌∙◌, nat_cmp, nat_eq}
+use Rattle.std.specs.Prelude.{unwrap_or, ◌&&◌, not}
 use Rattle.std.specs.List.{insert, refill}
 use Rattle.std.proofs.Math.Seq.{take-append_seam}
 use Rattle.std.proofs.lemmas.List.{length-map}
@@ -10,12 +10,13 @@ use Rattle.std.proofs.lemmas.List.Edits.{map_over_more}
 use Rattle.std.proofs.lemmas.Bool.{both_ways}
 use Rattle.nn_replicas.specs.declared.entry.Cell.{Cell}
 use Rattle.nn_replicas.specs.declared.entry.Change.{Change}
+use Rattle.nn_replicas.specs.declared.entry.Part.{Part}
 use Rattle.nn_replicas.specs.declared.entry.FileBlock.{FileBlock}
 use Rattle.nn_replicas.specs.Table.{BlockEntry}
-use Rattle.nn_replicas.specs.Entry.{row_of, replication_of, is_ordered, no_cell, cell_erased, cell_retired, cell_of, has_cell, with_cell, with_place, with_erased, IsChange}
-use Rattle.nn_replicas.specs.Figures.{one_if, grown}
+use Rattle.nn_replicas.specs.Entry.{row_of, replication_of, is_ordered, no_cell, cell_erased, cell_retired, cell_of, has_cell, with_cell, with_place, with_erased}
+use Rattle.nn_replicas.specs.Figures.{one_if, grown, no_part, part_of, IsChangedPart, IsChange}
 use Rattle.nn_replicas.specs.Scan.{place, is_here}
-use Rattle.nn_replicas.proofs.Entries.{put_sorted, put_same, length_put}
+use Rattle.nn_replicas.proofs.Entries.{put_sorted, length_put}
 use Rattle.nn_replicas.proofs.Scanned.{put_here, put_new, find_here, find_gone, here_at, not_here}
 
 abbrev pub Cells : Type 0
@@ -70,30 +71,31 @@ wrote_new e file xs fs dn k named z f v s p h g n m =
 
 -- ---- what changed
 
--- the DataNode's cell was written, or was so already
+-- the cell that stood was written
 pub changed_here : (e : BlockEntry) (file : Option FileBlock) (xs : Cells) (dn k : ℕ) (x z : ℕ × Cell) (w : Cell) (change : Option Change)
-    → entry file xs ≡ e → is_sorted nat_cmp xs ≡ true → k ≡ place dn xs → is_here dn xs ≡ true → x ≡ get_or xs k x → z ≡ (x.0, w)
-    → IfNone change (z ≡ x) → IfSome change (λ c. c ≡ record { was = Some x.1; is = z.1 })
+    → entry file xs ≡ e → k ≡ place dn xs → is_here dn xs ≡ true → x ≡ get_or xs k x → z ≡ (x.0, w)
+    → IsChangedPart (row_of file) (Some x.1) z.1 change
     → IsChange e dn (entry file (set xs k z)) change
-changed_here e file xs dn k x z w None v s p h g m same new =
+changed_here e file xs dn k x z w change v p h g m c =
     let found : find nat_cmp dn xs ≡ Some x.1 = find_here dn xs x h ∙ ap (λ j. Some (get_or xs j x).1) (sym p) ∙ ap (λ (y : ℕ × Cell). Some y.1) (sym g) in
-    wrote_here e file xs dn k (is_some file) x z (λ b c. x.1) v p h g refl (m ∙ ap (λ (y : Cell). (x.0, y)) (ap (λ (y : ℕ × Cell). y.1) (sym m ∙ same)))
-    ∙ ap (λ y. with_cell y dn x.1) (sym v) ∙ ap (entry file) (put_same dn x.1 xs found s) ∙ v
-changed_here e file xs dn k x z w (Some change) v s p h g m same new =
-    let found : find nat_cmp dn xs ≡ Some x.1 = find_here dn xs x h ∙ ap (λ j. Some (get_or xs j x).1) (sym p) ∙ ap (λ (y : ℕ × Cell). Some y.1) (sym g) in
-    (
-      ap (λ c. c.was) new ∙ sym found ∙ ap (λ y. find nat_cmp dn y.cells) v,
-      wrote_here e file xs dn k (is_some file) x z (λ b c. z.1) v p h g refl (m ∙ ap (λ (y : Cell). (x.0, y)) (ap (λ (y : ℕ × Cell). y.1) (sym m))) ∙ ap (with_cell e dn) (ap (λ c. c.is) (sym new)),
+    inr (
+      z.1,
+      wrote_here e file xs dn k (is_some file) x z (λ b y. z.1) v p h g refl (m ∙ ap (λ (y : Cell). (x.0, y)) (ap (λ (y : ℕ × Cell). y.1) (sym m))),
+      subst (λ (y : BlockEntry). IsChangedPart y.row (find nat_cmp dn y.cells) z.1 change) v (subst (λ o. IsChangedPart (row_of file) o z.1 change) (sym found) c),
     )
 
 -- the DataNode was not placed
-pub changed_new : (e : BlockEntry) (file : Option FileBlock) (xs fs : Cells) (dn k : ℕ) (z : ℕ × Cell) (w is : Cell)
-    → entry file xs ≡ e → is_sorted nat_cmp xs ≡ true → k ≡ place dn xs → is_here dn xs ≡ false → fs ≡ insert xs k z → z ≡ (dn, w) → is ≡ z.1
-    → IsChange e dn (entry file fs) (Some (record { was = None; is = is }))
-changed_new e file xs fs dn k z w is v s p h g m i = (
-  sym (find_gone dn xs s h) ∙ ap (λ y. find nat_cmp dn y.cells) v,
-  wrote_new e file xs fs dn k (is_some file) z (λ b c. is) v s p h g refl (m ∙ ap (λ (y : Cell). (dn, y)) (ap (λ (y : ℕ × Cell). y.1) (sym m) ∙ sym i)),
-)
+pub changed_new : (e : BlockEntry) (file : Option FileBlock) (xs fs : Cells) (dn k : ℕ) (z : ℕ × Cell) (w : Cell) (was is : Part)
+    → entry file xs ≡ e → is_sorted nat_cmp xs ≡ true → k ≡ place dn xs → is_here dn xs ≡ false → fs ≡ insert xs k z → z ≡ (dn, w)
+    → was ≡ no_part → is ≡ part_of (row_of file) (Some z.1)
+    → IsChange e dn (entry file fs) (Some (record { was = was; is = is }))
+changed_new e file xs fs dn k z w was is v s p h g m a b =
+    inr (
+      z.1,
+      wrote_new e file xs fs dn k (is_some file) z (λ b y. z.1) v s p h g refl (m ∙ ap (λ (y : Cell). (dn, y)) (ap (λ (y : ℕ × Cell). y.1) (sym m))),
+      subst (λ (y : BlockEntry). IsChangedPart y.row (find nat_cmp dn y.cells) z.1 (Some (record { was = was; is = is }))) v
+        (subst (λ o. IsChangedPart (row_of file) o z.1 (Some (record { was = was; is = is }))) (sym (find_gone dn xs s h)) (a, b)),
+    )
 
 -- ---- whether there is a cell
 

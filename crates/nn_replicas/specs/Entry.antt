@@ -1,5 +1,5 @@
 -- What is done to a block id, and how it counts.
-use Rattle.std.specs.Prelude.{◌≡◌, ℕ, Bool, true, false, not, ◌&&◌, ◌||◌, nat_le, List, [], map, Option, Some, None, is_some, unwrap_or, count_by, filter_map}
+use Rattle.std.specs.Prelude.{ℕ, Bool, true, false, not, ◌&&◌, ◌||◌, nat_le, List, [], map, Option, Some, None, is_some, unwrap_or, count_by, filter_map}
 use Rattle.std.specs.Prelude.{if◌then◌else◌}
 use Rattle.std.specs.List.{list_all}
 use Rattle.std.specs.Option.{option_map}
@@ -10,7 +10,6 @@ use Rattle.nn_types.specs.declared.replica.Replica.{Replica}
 use Rattle.nn_model.specs.Counts.{is_live}
 use Rattle.nn_model.specs.declared.form.BlockRow.{BlockRow}
 use Rattle.nn_replicas.specs.declared.entry.Cell.{Cell}
-use Rattle.nn_replicas.specs.declared.entry.Change.{Change}
 use Rattle.nn_replicas.specs.declared.entry.FileBlock.{FileBlock}
 use Rattle.nn_replicas.specs.declared.entry.Told.{Told}
 use Rattle.nn_replicas.specs.declared.entry.Told.TheVariants.{Room, Has, HasNone}
@@ -94,11 +93,6 @@ with_told e dn None = with_erased (with_place e dn) dn
 -- this is said of the DataNode, which has a cell from now on
 abbrev pub with_word : BlockEntry → ℕ → Told → BlockEntry
 with_word e dn told = with_cell e dn (cell_told (is_some e.row) told (cell_of e dn))
-
--- all is as it was, or the DataNode's cell is another one
-abbrev pub IsChange : BlockEntry → ℕ → BlockEntry → Option Change → Type 0
-IsChange e dn f None = f ≡ e
-IsChange e dn f (Some change) = (change.was ≡ find nat_cmp dn e.cells) × (f ≡ with_cell e dn change.is)
 
 -- the block leaves its file
 abbrev pub retired : BlockEntry → BlockEntry

@@ -1,5 +1,5 @@
 -- What an operator reads of a table: how many blocks, replicas and orders of each kind there are.
-use Rattle.std.specs.Prelude.{ℕ, Bool, false, not, ◌&&◌, ◌==◌, ◌+◌, ◌-◌, ◌<◌, ◌≤◌, ◌^◌, nat_lt, nat_le, List, map, length, Option, Some, None, is_some, count_by, if◌then◌else◌}
+use Rattle.std.specs.Prelude.{◌≡◌, ◌⊎◌, ℕ, Bool, true, false, not, ◌&&◌, ◌==◌, ◌+◌, ◌-◌, ◌<◌, ◌≤◌, ◌^◌, nat_lt, nat_le, List, map, length, Option, Some, None, is_some, count_by, if◌then◌else◌}
 use Rattle.std.specs.List.{sum_by}
 use Rattle.std.specs.Ordering.{nat_cmp}
 use Rattle.nn_sorted.specs.Values.{entries_from}
@@ -11,10 +11,13 @@ use Rattle.nn_model.specs.Counts.{class_of}
 use Rattle.nn_model.specs.declared.form.BlockRow.{BlockRow}
 use Rattle.nn_replicas.specs.declared.entry.Cell.{Cell}
 use Rattle.nn_replicas.specs.declared.entry.Classes.{Classes}
+use Rattle.nn_replicas.specs.declared.entry.Change.{Change}
+use Rattle.nn_replicas.specs.declared.entry.Part.{Part}
 use Rattle.nn_replicas.specs.declared.entry.Standing.{Standing}
 use Rattle.nn_replicas.specs.declared.figures.Figures.{Figures}
 use Rattle.nn_replicas.specs.Table.{BlockEntry, Replicas}
-use Rattle.nn_replicas.specs.Entry.{live_cells, has_cell, is_closed, is_safe}
+use Rattle.std.specs.FinMap.Entries.{find}
+use Rattle.nn_replicas.specs.Entry.{with_cell, live_cells, has_cell, is_closed, is_safe}
 use Rattle.nn_replicas.specs.Calls.{total_in, safe_in}
 
 abbrev pub one_if : Bool → ℕ
@@ -56,11 +59,6 @@ with_class c class = record {
   ahead = c.ahead + one_if (is_class Ahead class);
   wrong_length = c.wrong_length + one_if (is_class WrongLength class);
 }
-
--- the class of what a DataNode has, if it was placed and has something
-abbrev pub class_told : Block → Option Cell → Option Class
-class_told b None = None
-class_told b (Some c) = option_map (λ r. class_of r b) c.replica
 
 -- one replica more can be counted
 pub record HaveRoom (c : Classes) : Type 0 where
@@ -228,6 +226,49 @@ pub record MayRestand (all : Figures) (was is : Standing) : Type 0 where
   pub missing_of_one : Changes all.missing_of_one was.missing_of_one is.missing_of_one
   pub under_replicated : Changes all.under_replicated was.under_replicated is.under_replicated
   pub over_replicated : Changes all.over_replicated was.over_replicated is.over_replicated
+
+-- ---- What one DataNode adds.
+
+abbrev pub class_by_row : Option BlockRow → Cell → Option Class
+class_by_row None c = None
+class_by_row (Some row) c = option_map (λ r. class_of r row.block) c.replica
+
+abbrev pub no_part : Part
+no_part = record { placed = false; ordered = false; class = None }
+
+-- a DataNode that was placed at a block with this row, or was not
+abbrev pub part_of : Option BlockRow → Option Cell → Part
+part_of row None = no_part
+part_of row (Some c) = record { placed = true; ordered = c.ordered; class = class_by_row row c }
+
+-- it adds as much as before, or something else now
+abbrev pub IsChangedPart : Option BlockRow → Option Cell → Cell → Option Change → Type 0
+IsChangedPart row was is None = part_of row (Some is) ≡ part_of row was
+IsChangedPart row was is (Some change) = (change.was ≡ part_of row was) × (change.is ≡ part_of row (Some is))
+
+-- all is as it was, or the DataNode's cell is another one, which adds so much
+abbrev pub IsChange : BlockEntry → ℕ → BlockEntry → Option Change → Type 0
+IsChange e dn f change = ((f ≡ e) × (change ≡ None)) ⊎ ((c : Cell) × (f ≡ with_cell e dn c) × IsChangedPart e.row (find nat_cmp dn e.cells) c change)
+
+abbrev changed_class : Class → ℕ → Change → ℕ
+changed_class class all change = (all - one_if (is_class class change.was.class)) + one_if (is_class class change.is.class)
+
+-- a DataNode added `was`, and adds `is`
+abbrev pub recounted : Figures → Change → Figures
+recounted all change = record all {
+  stale = changed_class Stale all.stale change;
+  ahead = changed_class Ahead all.ahead change;
+  wrong_length = changed_class WrongLength all.wrong_length change;
+  orders = (all.orders - one_if change.was.ordered) + one_if change.is.ordered;
+  places = (all.places - one_if change.was.placed) + one_if change.is.placed;
+}
+
+pub record MayRecount (all : Figures) (change : Change) : Type 0 where
+  pub stale : Changes all.stale (one_if (is_class Stale change.was.class)) (one_if (is_class Stale change.is.class))
+  pub ahead : Changes all.ahead (one_if (is_class Ahead change.was.class)) (one_if (is_class Ahead change.is.class))
+  pub wrong_length : Changes all.wrong_length (one_if (is_class WrongLength change.was.class)) (one_if (is_class WrongLength change.is.class))
+  pub orders : Changes all.orders (one_if change.was.ordered) (one_if change.is.ordered)
+  pub places : Changes all.places (one_if change.was.placed) (one_if change.is.placed)
 
 -- how many DataNodes have a cell once this one has
 abbrev pub grown : BlockEntry → ℕ → ℕ

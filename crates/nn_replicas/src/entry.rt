@@ -1,5 +1,6 @@
 //! What is known of one block id: its row, and a cell for each DataNode that was placed.
-ghost use Rattle.std.specs.Prelude.{◌≡◌, ℕ, IsOk, OnOk, OnErr, IfOk, is_some, true, map, ◌++◌, IsTrue, length, count_by};
+ghost use Rattle.nn_types.specs.declared.replica.Class.TheVariants.{Live};
+ghost use Rattle.std.specs.Prelude.{◌≡◌, ℕ, Some, IsOk, OnOk, OnErr, IfOk, is_some, true, map, ◌++◌, IsTrue, length, count_by};
 ghost use Rattle.std.specs.List.{list_all};
 ghost use Rattle.std.specs.List.Sorted.{IsStrictlySortedBy};
 ghost use Rattle.std.specs.FinMap.Entries.{find, is_sorted};
@@ -8,12 +9,12 @@ ghost use Rattle.std.specs.Option.{option_map};
 ghost use Rattle.nn_model.specs.Counts.{class_of};
 ghost use Rattle.nn_replicas.specs.Scan.{place, is_here};
 ghost use Rattle.nn_replicas.specs.Table.{BlockEntry};
-ghost use Rattle.nn_replicas.specs.Entry.{replicas_in, orders_in, is_ordered, ordered_in, cell_retired, no_entry, is_idle, is_idle_cell, has_cell, entry_with_row, with_place, with_put, with_erased, with_word, told_of, IsChange, retired, stamp_in, live_cells};
+ghost use Rattle.nn_replicas.specs.Entry.{replicas_in, orders_in, is_ordered, ordered_in, cell_retired, no_entry, is_idle, is_idle_cell, has_cell, entry_with_row, with_place, with_put, with_erased, with_word, told_of, cell_told, row_of, retired, stamp_in, live_cells};
 ghost use Rattle.nn_replicas.specs.Calls.{reaches, with_due};
-ghost use Rattle.nn_replicas.specs.Figures.{classes_in, no_classes, with_class, class_told, HaveRoom, figures_in, standing_of, replaced, MayReplace, too_few, one_if, grown};
+ghost use Rattle.nn_replicas.specs.Figures.{classes_in, no_classes, with_class, is_class, no_part, part_of, IsChange, IsChangedPart, HaveRoom, figures_in, standing_of, replaced, MayReplace, too_few, one_if, grown};
 
 use crate::classes::class;
-use crate::figures::{changed, Figures};
+use crate::figures::Figures;
 use crate::orders_of::OrdersOf;
 use crate::replicas_of::ReplicasOf;
 use crate::slot::Slot;
@@ -41,12 +42,20 @@ pub enum Told {
     HasNone,
 }
 
-/// A cell that is another one from now on.
+/// What a DataNode adds to the figures of a block.
+#[derive(Clone, Copy, Debug, PartialEq, Eq)]
+pub struct Part {
+    pub placed: bool,
+    pub ordered: bool,
+    /// Of its replica, where a file holds the block and the DataNode has one.
+    pub class: Option<Class>,
+}
+
+/// What one DataNode added, and adds from now on.
 #[derive(Clone, Copy, Debug)]
 pub struct Change {
-    /// None where the DataNode was not placed.
-    pub was: Option<Cell>,
-    pub is: Cell,
+    pub was: Part,
+    pub is: Part,
 }
 
 // A block as a file holds it. The replication is the file's.
@@ -157,22 +166,19 @@ impl Entry {
         let Some(change) = change else {
             return;
         };
-        figures.places += u64::from(change.was.is_none());
-        let order = u64::from(change.is.ordered);
-        figures.orders = changed(figures.orders, order_told(change.was), order);
+        figures.recount(&change);
+        let (lived, lives) = (is_live(change.was.class), is_live(change.is.class));
+        if lived == lives {
+            return;
+        }
         let Some(file) = file else {
             return;
         };
-        let was = Classes::of(change.was, &file.block);
-        let is = Classes::of(Some(change.is), &file.block);
-        figures.stale = changed(figures.stale, was.stale, is.stale);
-        figures.ahead = changed(figures.ahead, was.ahead, is.ahead);
-        figures.wrong_length = changed(figures.wrong_length, was.wrong_length, is.wrong_length);
-        if was.live == is.live {
+        if !file.closed {
             return;
         }
         let live = live_in(self.cells.as_slice(), &file.block);
-        let stood = Standing::of(&file, min, live - is.live + was.live);
+        let stood = Standing::of(&file, min, live - u64::from(lives) + u64::from(lived));
         figures.restand(&stood, &Standing::of(&file, min, live));
     }
 
@@ -207,19 +213,23 @@ impl Entry {
         ensures err { OnErr result (self.new ≡ self.old) }
         ensures room { is_some (find nat_cmp dn self.old.cells) ≡ true → IsOk result }
     {
-        let named = self.file.is_some();
+        let file = self.file;
+        let named = file.is_some();
         let place = place_of(self.cells.as_slice(), dn);
         if has_cell(self.cells.as_slice(), place, dn) {
             let Some(slot) = self.cells.get_mut(place) else {
                 unreachable!()
             };
-            return Ok(slot.write(named, told));
+            return Ok(write_slot(slot, &file, told));
         }
         let mut slot = Slot::new(dn);
-        let _change = slot.write(named, told);
-        let is = slot.cell();
+        slot.write(named, told);
+        let is = part_of(&slot, &file);
         self.cells.insert(place, slot)?;
-        Ok(Some(Change { was: None, is }))
+        Ok(Some(Change {
+            was: Part::none(),
+            is,
+        }))
     }
 
     // Makes room for the DataNode, which stays.
@@ -250,13 +260,13 @@ impl Entry {
         ensures change { IsChange self.old dn self.new result }
         ensures places { length self.new.cells ≡ length self.old.cells }
     {
-        let named = self.file.is_some();
+        let file = self.file;
         let place = place_of(self.cells.as_slice(), dn);
         if has_cell(self.cells.as_slice(), place, dn) {
             let Some(slot) = self.cells.get_mut(place) else {
                 unreachable!()
             };
-            return slot.write(named, Told::HasNone);
+            return write_slot(slot, &file, Told::HasNone);
         }
         None
     }
@@ -450,13 +460,6 @@ impl Classes {
         }
     }
 
-    // What one DataNode has.
-    fn of(cell: Option<Cell>, block: &Block) -> Classes
-        ensures { result ≡ with_class no_classes (class_told block.now cell) }
-    {
-        Classes::none().with(class_told(cell, block))
-    }
-
     // The same with one replica more, if there is one.
     fn with(self, class: Option<Class>) -> Classes
         requires { HaveRoom self }
@@ -504,37 +507,62 @@ fn class_in(slot: &Slot, block: &Block) -> Option<Class>
     Some(class(replica, *block))
 }
 
-// The same of a DataNode that may not have been placed.
-fn class_told(cell: Option<Cell>, block: &Block) -> Option<Class>
-    ensures { result ≡ class_told block.now cell }
+fn is_live(class: Option<Class>) -> bool
+    ensures { result ≡ is_class Live class }
 {
-    let Some(cell) = cell else {
-        return None;
-    };
-    let Some(replica) = cell.replica else {
-        return None;
-    };
-    Some(class(replica, *block))
+    class == Some(Class::Live)
 }
 
-// 1 where the DataNode is to delete what it has.
-fn order_told(cell: Option<Cell>) -> u64
-    ensures { result ≡ one_if (is_ordered cell) }
+impl Part {
+    // Of a DataNode that was not placed.
+    fn none() -> Part
+        ensures { result ≡ no_part }
+    {
+        Part {
+            placed: false,
+            ordered: false,
+            class: None,
+        }
+    }
+}
+
+// What the DataNode adds to a block that is held so.
+fn part_of(slot: &Slot, file: &Option<FileBlock>) -> Part
+    ensures { result ≡ part_of (row_of file.now) (Some slot.now.1) }
 {
-    let Some(cell) = cell else {
-        return 0;
+    let class = match file {
+        None => None,
+        Some(file) => class_in(slot, &file.block),
     };
-    u64::from(cell.ordered)
+    Part {
+        placed: true,
+        ordered: slot.ordered(),
+        class,
+    }
+}
+
+// Writes what is said into a cell of a block that is held so. Answers none where it adds as much as before.
+fn write_slot(slot: &mut Slot, file: &Option<FileBlock>, told: Told) -> Option<Change>
+    ensures cell { slot.new ≡ (slot.old.0, cell_told (is_some file.now) told slot.old.1) }
+    ensures change { IsChangedPart (row_of file.now) (Some slot.old.1) slot.new.1 result }
+{
+    if let Told::Room = told {
+        return None;
+    }
+    let was = part_of(slot, file);
+    slot.write(file.is_some(), told);
+    let is = part_of(slot, file);
+    if was == is {
+        return None;
+    }
+    Some(Change { was, is })
 }
 
 // How many live replicas the block has.
 fn live_in(cells: &[Slot], block: &Block) -> u64
     ensures { result ≡ live_cells block.now cells.now }
 {
-    cells
-        .iter()
-        .filter(|slot| class_in(slot, block) == Some(Class::Live))
-        .count() as u64
+    cells.iter().filter(|slot| slot.is_live(block)).count() as u64
 }
 
 // What a block of a file is counted as, by its live replicas.

@@ -1,8 +1,9 @@
 //! What an operator reads of a table.
 ghost use Rattle.std.specs.Prelude.{◌≡◌, ◌+◌, ◌-◌};
-ghost use Rattle.nn_replicas.specs.Figures.{no_figures, replaced, restood, Changes, MayReplace, MayRestand};
+ghost use Rattle.nn_replicas.specs.Figures.{no_figures, replaced, recounted, restood, Changes, MayRecount, MayReplace, MayRestand};
 
-use crate::entry::Standing;
+use crate::entry::{Change, Standing};
+use nn_types::Class;
 
 /// How many blocks, replicas and orders of each kind a table has.
 #[derive(Clone, Copy, Debug, PartialEq, Eq)]
@@ -83,6 +84,30 @@ impl Figures {
         }
     }
 
+    // The places, the orders and the replicas that are not live, once a DataNode adds what it adds now.
+    pub(crate) fn recount(&mut self, change: &Change)
+        requires { MayRecount self.old change.now }
+        ensures { self.new ≡ recounted self.old change.now }
+    {
+        self.places = changed(self.places, u64::from(change.was.placed), u64::from(change.is.placed));
+        self.orders = changed(self.orders, u64::from(change.was.ordered), u64::from(change.is.ordered));
+        if change.was.class == change.is.class {
+            return;
+        }
+        match change.was.class {
+            Some(Class::Stale) => self.stale -= 1,
+            Some(Class::Ahead) => self.ahead -= 1,
+            Some(Class::WrongLength) => self.wrong_length -= 1,
+            None | Some(Class::Live | Class::Building) => {}
+        }
+        match change.is.class {
+            Some(Class::Stale) => self.stale += 1,
+            Some(Class::Ahead) => self.ahead += 1,
+            Some(Class::WrongLength) => self.wrong_length += 1,
+            None | Some(Class::Live | Class::Building) => {}
+        }
+    }
+
     // The same once a block that stood so stands so now.
     pub(crate) fn restand(&mut self, was: &Standing, is: &Standing)
         requires { MayRestand self.old was.now is.now }
@@ -96,7 +121,7 @@ impl Figures {
     }
 }
 
-pub(crate) fn changed(all: u64, was: u64, is: u64) -> u64
+fn changed(all: u64, was: u64, is: u64) -> u64
     requires { Changes all was is }
     ensures { result ≡ (all - was) + is }
 {

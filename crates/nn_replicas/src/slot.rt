@@ -1,9 +1,10 @@
 //! A DataNode that was placed at a block, and its cell.
-ghost use Rattle.std.specs.Prelude.{◌≡◌, Some, IfNone, IfSome};
+ghost use Rattle.std.specs.Prelude.{◌≡◌};
+ghost use Rattle.nn_model.specs.Counts.{is_live};
 ghost use Rattle.nn_replicas.specs.Entry.{no_cell, cell_told, cell_retired};
 
-use crate::entry::{Cell, Change, Told};
-use nn_types::{GenerationStamp, Kind, Length, Replica};
+use crate::entry::{Cell, Told};
+use nn_types::{Block, GenerationStamp, Kind, Length, Replica};
 use std::marker::Model;
 
 // A DataNode and its cell, packed into 24 bytes: an option of a replica would take 32 of its own.
@@ -71,16 +72,25 @@ impl Slot {
         }
     }
 
-    // Writes what is said of the DataNode: where the block is named as a replica, else as an order. Answers none where it was so
-    // already.
-    pub fn write(&mut self, named: bool, told: Told) -> Option<Change>
-        ensures cell { self.new ≡ (self.old.0, cell_told named told self.old.1) }
-        ensures same { IfNone result (self.new ≡ self.old) }
-        ensures change { IfSome result (λ change. change ≡ record { was = Some self.old.1; is = self.new.1 }) }
+    pub fn ordered(&self) -> bool
+        ensures { result ≡ self.now.1.ordered }
     {
-        let was = self.cell();
+        self.ordered
+    }
+
+    // Whether the DataNode has a live replica of the block.
+    pub fn is_live(&self, block: &Block) -> bool
+        ensures { result ≡ is_live self.now.1.replica block.now }
+    {
+        self.kind == Some(Kind::Received) && self.stamp == block.stamp && self.len == block.len
+    }
+
+    // Writes what is said of the DataNode: where the block is named as a replica, else as an order.
+    pub fn write(&mut self, named: bool, told: Told)
+        ensures { self.new ≡ (self.old.0, cell_told named told self.old.1) }
+    {
         match told {
-            Told::Room => return None,
+            Told::Room => {}
             Told::Has(replica) if named => {
                 self.kind = Some(replica.kind);
                 self.stamp = replica.stamp;
@@ -90,11 +100,6 @@ impl Slot {
             Told::HasNone if named => self.kind = None,
             Told::HasNone => self.ordered = false,
         }
-        let is = self.cell();
-        if was == is {
-            return None;
-        }
-        Some(Change { was: Some(was), is })
     }
 
     // Turns a replica into an order.

@@ -1,4 +1,4 @@
-use Rattle.std.proofs.Common.{length, refl, sym, ap, ◌∙◌, arith, nat_cmp}
+use Rattle.std.proofs.Common.{is_some, length, refl, sym, ap, ◌∙◌, arith, nat_cmp}
 use Rattle.std.specs.FinMap.Entries.{is_sorted}
 use Rattle.nn_replicas.specs.Entry.{cell_erased}
 use Rattle.nn_replicas.specs.Scan.{place, is_here}
@@ -16,14 +16,14 @@ pub invariant_of-self : goal.invariant_of-self
 invariant_of-self c =
     let k = c.place_of-place.ensures ∙ ap (place c.args.dn) c.as_slice.ensures in
     let h = sym (c.if-has_cell.ensures ∙ ap (is_here c.args.dn) c.as_slice-2.ensures) in
-    sorted_here c.args.dn c.place_of-place.result _ c.in-Some.slot.now c.write.new.self c.self.inside.cells.items c.self.invariant k h c.in-Some.ensures.value c.write.ensures.cell
+    sorted_here c.args.dn c.place_of-place.result _ c.in-Some.slot.now c.write_slot.new.slot c.self.inside.cells.items c.self.invariant k h c.in-Some.ensures.value c.write_slot.ensures.cell
 
 pub returns-then-has_cell-clause-erased : goal.returns-then-has_cell-clause-erased
 returns-then-has_cell-clause-erased c =
     let k = c.place_of-place.ensures ∙ ap (place c.args.dn) c.as_slice.ensures in
     let h = sym (c.if-has_cell.ensures ∙ ap (is_here c.args.dn) c.as_slice-2.ensures) in
-    wrote_here c.args.self.now c.self.inside.file c.self.inside.cells.items c.args.dn c.place_of-place.result c.is_some-named.result c.in-Some.slot.now c.write.new.self (λ b x. cell_erased b x)
-    c.self.view_is k h c.in-Some.ensures.value c.is_some-named.ensures c.write.ensures.cell
+    wrote_here c.args.self.now c.self.inside.file c.self.inside.cells.items c.args.dn c.place_of-place.result (is_some c.self.inside.file) c.in-Some.slot.now c.write_slot.new.slot (λ b x. cell_erased b x)
+    c.self.view_is k h c.in-Some.ensures.value refl c.write_slot.ensures.cell
     ∙ erased_there c.args.self.now c.args.dn (there c.args.self.now c.self.inside.file c.self.inside.cells.items c.args.dn c.self.view_is h)
 
 pub returns-clause-erased : goal.returns-clause-erased
@@ -40,5 +40,5 @@ pub returns-then-has_cell-clause-change : goal.returns-then-has_cell-clause-chan
 returns-then-has_cell-clause-change c =
     let k = c.place_of-place.ensures ∙ ap (place c.args.dn) c.as_slice.ensures in
     let h = sym (c.if-has_cell.ensures ∙ ap (is_here c.args.dn) c.as_slice-2.ensures) in
-    changed_here c.args.self.now c.self.inside.file c.self.inside.cells.items c.args.dn c.place_of-place.result c.in-Some.slot.now c.write.new.self _ c.write.result
-    c.self.view_is c.self.invariant k h c.in-Some.ensures.value c.write.ensures.cell c.write.ensures.same c.write.ensures.change
+    changed_here c.args.self.now c.self.inside.file c.self.inside.cells.items c.args.dn c.place_of-place.result c.in-Some.slot.now c.write_slot.new.slot _ c.write_slot.result
+    c.self.view_is k h c.in-Some.ensures.value c.write_slot.ensures.cell c.write_slot.ensures.change

@@ -1,4 +1,4 @@
-use Rattle.std.proofs.Common.{length, sym, ap, ◌∙◌, arith, nat_cmp, refl}
+use Rattle.std.proofs.Common.{is_some, length, sym, ap, ◌∙◌, arith, nat_cmp, refl}
 use Rattle.std.specs.FinMap.Entries.{is_sorted}
 use Rattle.nn_replicas.specs.Entry.{cell_told}
 use Rattle.nn_replicas.specs.Scan.{place, is_here}
@@ -16,21 +16,21 @@ pub invariant_of-self : goal.invariant_of-self
 invariant_of-self c =
     let k = c.place_of-place.ensures ∙ ap (place c.args.dn) c.as_slice.ensures in
     let h = sym (c.if-has_cell.ensures ∙ ap (is_here c.args.dn) c.as_slice-2.ensures) in
-    sorted_here c.args.dn c.place_of-place.result _ c.in-Some.slot.now c.write.new.self c.self.inside.cells.items c.self.invariant k h c.in-Some.ensures.value c.write.ensures.cell
+    sorted_here c.args.dn c.place_of-place.result _ c.in-Some.slot.now c.write_slot.new.slot c.self.inside.cells.items c.self.invariant k h c.in-Some.ensures.value c.write_slot.ensures.cell
 
 pub returns-then-has_cell-clause-ok : goal.returns-then-has_cell-clause-ok
 returns-then-has_cell-clause-ok c =
     let k = c.place_of-place.ensures ∙ ap (place c.args.dn) c.as_slice.ensures in
     let h = sym (c.if-has_cell.ensures ∙ ap (is_here c.args.dn) c.as_slice-2.ensures) in
-    wrote_here c.args.self.now c.self.inside.file c.self.inside.cells.items c.args.dn c.place_of-place.result c.is_some-named.result c.in-Some.slot.now c.write.new.self (λ b x. cell_told b c.args.told x)
-    c.self.view_is k h c.in-Some.ensures.value c.is_some-named.ensures c.write.ensures.cell
+    wrote_here c.args.self.now c.self.inside.file c.self.inside.cells.items c.args.dn c.place_of-place.result (is_some c.self.inside.file) c.in-Some.slot.now c.write_slot.new.slot (λ b x. cell_told b c.args.told x)
+    c.self.view_is k h c.in-Some.ensures.value refl c.write_slot.ensures.cell
 
 pub returns-then-has_cell-clause-change : goal.returns-then-has_cell-clause-change
 returns-then-has_cell-clause-change c =
     let k = c.place_of-place.ensures ∙ ap (place c.args.dn) c.as_slice.ensures in
     let h = sym (c.if-has_cell.ensures ∙ ap (is_here c.args.dn) c.as_slice-2.ensures) in
-    changed_here c.args.self.now c.self.inside.file c.self.inside.cells.items c.args.dn c.place_of-place.result c.in-Some.slot.now c.write.new.self _ c.write.result
-    c.self.view_is c.self.invariant k h c.in-Some.ensures.value c.write.ensures.cell c.write.ensures.same c.write.ensures.change
+    changed_here c.args.self.now c.self.inside.file c.self.inside.cells.items c.args.dn c.place_of-place.result c.in-Some.slot.now c.write_slot.new.slot _ c.write_slot.result
+    c.self.view_is k h c.in-Some.ensures.value c.write_slot.ensures.cell c.write_slot.ensures.change
 
 pub insert-requires : goal.insert-requires
 insert-requires c =
@@ -46,24 +46,24 @@ pub invariant_of-self-2 : goal.invariant_of-self-2
 invariant_of-self-2 c =
     let k = c.place_of-place.ensures ∙ ap (place c.args.dn) c.as_slice.ensures in
     let h = sym (c.if-has_cell.ensures ∙ ap (is_here c.args.dn) c.as_slice-2.ensures) in
-    let new = c.write-change.ensures.cell ∙ ap (λ s. (s.0, cell_told c.is_some-named.result c.args.told s.1)) c.new-slot.ensures in
-    sorted_new c.args.dn c.place_of-place.result _ c.write-change.new.self c.self.inside.cells.items _ c.self.invariant k h c.in_ok-insert.ensures.ok new
+    let new = c.write.ensures ∙ ap (λ s. (s.0, cell_told c.is_some-named.result c.args.told s.1)) c.new-slot.ensures in
+    sorted_new c.args.dn c.place_of-place.result _ c.write.new.self c.self.inside.cells.items _ c.self.invariant k h c.in_ok-insert.ensures.ok new
 
 pub returns-clause-ok : goal.returns-clause-ok
 returns-clause-ok c =
     let k = c.place_of-place.ensures ∙ ap (place c.args.dn) c.as_slice.ensures in
     let h = sym (c.if-has_cell.ensures ∙ ap (is_here c.args.dn) c.as_slice-2.ensures) in
-    let new = c.write-change.ensures.cell ∙ ap (λ s. (s.0, cell_told c.is_some-named.result c.args.told s.1)) c.new-slot.ensures in
-    wrote_new c.args.self.now c.self.inside.file c.self.inside.cells.items _ c.args.dn c.place_of-place.result c.is_some-named.result c.write-change.new.self (λ b x. cell_told b c.args.told x)
+    let new = c.write.ensures ∙ ap (λ s. (s.0, cell_told c.is_some-named.result c.args.told s.1)) c.new-slot.ensures in
+    wrote_new c.args.self.now c.self.inside.file c.self.inside.cells.items _ c.args.dn c.place_of-place.result c.is_some-named.result c.write.new.self (λ b x. cell_told b c.args.told x)
     c.self.view_is c.self.invariant k h c.in_ok-insert.ensures.ok c.is_some-named.ensures new
 
 pub returns-clause-change : goal.returns-clause-change
 returns-clause-change c =
     let k = c.place_of-place.ensures ∙ ap (place c.args.dn) c.as_slice.ensures in
     let h = sym (c.if-has_cell.ensures ∙ ap (is_here c.args.dn) c.as_slice-2.ensures) in
-    let new = c.write-change.ensures.cell ∙ ap (λ s. (s.0, cell_told c.is_some-named.result c.args.told s.1)) c.new-slot.ensures in
-    changed_new c.args.self.now c.self.inside.file c.self.inside.cells.items _ c.args.dn c.place_of-place.result c.write-change.new.self _ c.cell-is.result
-    c.self.view_is c.self.invariant k h c.in_ok-insert.ensures.ok new c.cell-is.ensures
+    let new = c.write.ensures ∙ ap (λ s. (s.0, cell_told c.is_some-named.result c.args.told s.1)) c.new-slot.ensures in
+    changed_new c.args.self.now c.self.inside.file c.self.inside.cells.items _ c.args.dn c.place_of-place.result c.write.new.self _ c.none.result c.part_of-is.result
+    c.self.view_is c.self.invariant k h c.in_ok-insert.ensures.ok new c.none.ensures c.part_of-is.ensures
 
 pub returns-then-has_cell-clause-places : goal.returns-then-has_cell-clause-places
 returns-then-has_cell-clause-places c =

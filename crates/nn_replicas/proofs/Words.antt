@@ -31,6 +31,7 @@ told_word e dn None = cases (find nat_cmp dn e.cells) refl
   where
     erased : Cell → BlockEntry
     erased c = with_cell e dn (cell_erased (is_some e.row) c)
+
     cases : (o : Option Cell) → find nat_cmp dn e.cells ≡ o → erased (cell_of e dn) ≡ with_erased (cond (is_some (find nat_cmp dn e.cells)) e (with_cell e dn no_cell)) dn
     cases None h =
         let placed = with_cell e dn no_cell in

@@ -94,7 +94,7 @@ changed_new e file xs fs dn k z w was is v s p h g m a b =
       z.1,
       wrote_new e file xs fs dn k (is_some file) z (λ b y. z.1) v s p h g refl (m ∙ ap (λ (y : Cell). (dn, y)) (ap (λ (y : ℕ × Cell). y.1) (sym m))),
       subst (λ (y : BlockEntry). IsChangedPart y.row (find nat_cmp dn y.cells) z.1 (Some (record { was = was; is = is }))) v
-        (subst (λ o. IsChangedPart (row_of file) o z.1 (Some (record { was = was; is = is }))) (sym (find_gone dn xs s h)) (a, b)),
+          (subst (λ o. IsChangedPart (row_of file) o z.1 (Some (record { was = was; is = is }))) (sym (find_gone dn xs s h)) (a, b)),
     )
 
 -- ---- whether there is a cell

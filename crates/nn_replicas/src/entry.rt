@@ -237,6 +237,7 @@ impl Entry {
         ensures ok { OnOk result (self.new ≡ with_place self.old dn) }
         ensures change { IfOk result (λ change. IsChange self.old dn self.new change) }
         ensures places { OnOk result (length self.new.cells ≡ grown self.old dn) }
+        ensures order { IsTrue (is_sorted nat_cmp self.old.cells) }
         ensures err { OnErr result (self.new ≡ self.old) }
         ensures room { is_some (find nat_cmp dn self.old.cells) ≡ true → IsOk result }
     {
@@ -248,6 +249,7 @@ impl Entry {
         ensures ok { OnOk result (self.new ≡ with_put self.old dn replica) }
         ensures change { IfOk result (λ change. IsChange self.old dn self.new change) }
         ensures places { OnOk result (length self.new.cells ≡ grown self.old dn) }
+        ensures order { IsTrue (is_sorted nat_cmp self.old.cells) }
         ensures err { OnErr result (self.new ≡ self.old) }
         ensures room { is_some (find nat_cmp dn self.old.cells) ≡ true → IsOk result }
     {
@@ -259,6 +261,7 @@ impl Entry {
         ensures erased { self.new ≡ with_erased self.old dn }
         ensures change { IsChange self.old dn self.new result }
         ensures places { length self.new.cells ≡ length self.old.cells }
+        ensures order { IsTrue (is_sorted nat_cmp self.old.cells) }
     {
         let file = self.file;
         let place = place_of(self.cells.as_slice(), dn);
@@ -281,6 +284,7 @@ impl Entry {
         ensures ok { OnOk result (self.new ≡ with_due self.old dn stamp replica) }
         ensures change { IfOk result (λ change. IsChange self.old dn self.new change) }
         ensures places { OnOk result (length self.new.cells ≡ grown self.old dn) }
+        ensures order { IsTrue (is_sorted nat_cmp self.old.cells) }
         ensures err { OnErr result (self.new ≡ self.old) }
         ensures room { is_some (find nat_cmp dn self.old.cells) ≡ true → IsOk result }
     {

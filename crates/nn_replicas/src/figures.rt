@@ -89,8 +89,16 @@ impl Figures {
         requires { MayRecount self.old change.now }
         ensures { self.new ≡ recounted self.old change.now }
     {
-        self.places = changed(self.places, u64::from(change.was.placed), u64::from(change.is.placed));
-        self.orders = changed(self.orders, u64::from(change.was.ordered), u64::from(change.is.ordered));
+        self.places = changed(
+            self.places,
+            u64::from(change.was.placed),
+            u64::from(change.is.placed),
+        );
+        self.orders = changed(
+            self.orders,
+            u64::from(change.was.ordered),
+            u64::from(change.is.ordered),
+        );
         if change.was.class == change.is.class {
             return;
         }
@@ -116,8 +124,16 @@ impl Figures {
         self.safe = changed(self.safe, was.safe, is.safe);
         self.missing = changed(self.missing, was.missing, is.missing);
         self.missing_of_one = changed(self.missing_of_one, was.missing_of_one, is.missing_of_one);
-        self.under_replicated = changed(self.under_replicated, was.under_replicated, is.under_replicated);
-        self.over_replicated = changed(self.over_replicated, was.over_replicated, is.over_replicated);
+        self.under_replicated = changed(
+            self.under_replicated,
+            was.under_replicated,
+            is.under_replicated,
+        );
+        self.over_replicated = changed(
+            self.over_replicated,
+            was.over_replicated,
+            is.over_replicated,
+        );
     }
 }
 

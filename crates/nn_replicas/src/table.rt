@@ -136,7 +136,7 @@ impl Replicas {
         let _recalled = self.entries.len();
         let Some(entry) = self.entries.get_mut(&block) else {
             let mut entry = Entry::new(self.alloc);
-            let _placed = entry.place(dn)?;
+            entry.place(dn)?;
             self.add(block, entry)?;
             return Ok(());
         };
@@ -162,7 +162,7 @@ impl Replicas {
         let _recalled = self.entries.len();
         let Some(entry) = self.entries.get_mut(&block) else {
             let mut entry = Entry::new(self.alloc);
-            let _put = entry.put(dn, replica)?;
+            entry.put(dn, replica)?;
             self.add(block, entry)?;
             return Ok(());
         };
@@ -209,7 +209,7 @@ impl Replicas {
         let _recalled = self.entries.len();
         let Some(entry) = self.entries.get_mut(&block) else {
             let mut entry = Entry::new(self.alloc);
-            let _placed = entry.place(dn)?;
+            entry.place(dn)?;
             self.add(block, entry)?;
             return Ok(None);
         };

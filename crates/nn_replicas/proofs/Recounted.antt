@@ -9,13 +9,13 @@ use Rattle.nn_types.specs.declared.replica.Class.TheVariants.{Stale, Ahead, Live
 use Rattle.nn_model.specs.Counts.{is_live}
 use Rattle.nn_model.specs.declared.form.BlockRow.{BlockRow}
 use Rattle.nn_replicas.specs.declared.entry.Cell.{Cell}
-use Rattle.nn_replicas.specs.declared.entry.Change.{Change}
+use Rattle.nn_replicas.specs.declared.entry.Difference.{Difference}
 use Rattle.nn_replicas.specs.declared.entry.FileBlock.{FileBlock}
 use Rattle.nn_replicas.specs.declared.entry.Standing.{Standing}
 use Rattle.nn_replicas.specs.declared.figures.Figures.{Figures}
 use Rattle.nn_replicas.specs.Table.{BlockEntry}
 use Rattle.nn_replicas.specs.Entry.{row_of, with_cell, live_cells}
-use Rattle.nn_replicas.specs.Figures.{is_class, class_by_row, part_of, IsChangedPart, IsChange, figures_in, standing_of, replaced, recounted, restood, one_if, Changes, MayReplace, MayRecount, MayRestand}
+use Rattle.nn_replicas.specs.Figures.{is_class, class_by_row, share_of, IsChangedShare, IsChange, figures_in, standing_of, replaced, recounted, restood, one_if, Changes, MayReplace, MayRecount, MayRestand}
 use Rattle.nn_replicas.proofs.Entries.{weight, counted, counted_cons, counted_put, summed_there, length_put}
 use Rattle.nn_replicas.proofs.Classed.{live_are}
 use Rattle.nn_replicas.proofs.Told.{found_put}
@@ -96,15 +96,15 @@ kept a w h = omega (arith, h)
 same : (a w i : ℕ) → w ≤ a → w ≡ i → a ≡ (a - w) + i
 same a w i h k = omega (arith, h, k)
 
-class_weight : (row : Option BlockRow) (class : Class) (o : Option Cell) → weight (λ c. is_class class (class_by_row row c)) o ≡ one_if (is_class class (part_of row o).class)
+class_weight : (row : Option BlockRow) (class : Class) (o : Option Cell) → weight (λ c. is_class class (class_by_row row c)) o ≡ one_if (is_class class (share_of row o).class)
 class_weight row class None = refl
 class_weight row class (Some c) = refl
 
-order_weight : (row : Option BlockRow) (o : Option Cell) → weight (λ c. c.ordered) o ≡ one_if (part_of row o).ordered
+order_weight : (row : Option BlockRow) (o : Option Cell) → weight (λ c. c.ordered) o ≡ one_if (share_of row o).ordered
 order_weight row None = refl
 order_weight row (Some c) = refl
 
-place_weight : (row : Option BlockRow) (o : Option Cell) → cond {A = ℕ} (is_some o) 1 0 ≡ one_if (part_of row o).placed
+place_weight : (row : Option BlockRow) (o : Option Cell) → cond {A = ℕ} (is_some o) 1 0 ≡ one_if (share_of row o).placed
 place_weight row None = refl
 place_weight row (Some c) = refl
 
@@ -151,7 +151,7 @@ unchanged min all e is h m =
     ∙ ap (λ y. replaced all (figures_in min e) (figures_in min y)) (sym h)
 
 -- the DataNode adds as much as before
-pub recounts_nothing : (all : Figures) (change : Change) → MayRecount all change → change.was ≡ change.is → all ≡ recounted all change
+pub recounts_nothing : (all : Figures) (change : Difference) → MayRecount all change → change.was ≡ change.is → all ≡ recounted all change
 recounts_nothing all change m h =
     (λ z. record all {
       stale = kept all.stale _ m.stale.0 z;
@@ -164,7 +164,7 @@ recounts_nothing all change m h =
 
 module _ (min dn : ℕ) (all : Figures) (e is : BlockEntry) (xs : Cells) (file : Option FileBlock) (v : entry file xs ≡ is) (c : Cell) (h : is ≡ with_cell e dn c)
     (s : is_sorted nat_cmp e.cells ≡ true) (m : MayReplace all (figures_in min e) (figures_in min is))
-    (change : Change) (part : IsChangedPart e.row (find nat_cmp dn e.cells) c (Some change)) where
+    (change : Difference) (part : IsChangedShare e.row (find nat_cmp dn e.cells) c (Some change)) where
   abbrev pub after : Cells
   after = put nat_cmp dn c e.cells
 
@@ -186,11 +186,11 @@ module _ (min dn : ℕ) (all : Figures) (e is : BlockEntry) (xs : Cells) (file :
   back : replaced all (adds min file e.cells) (adds min file after) ≡ replaced all (figures_in min e) (figures_in min is)
   back = ap (λ f. replaced all f (adds min file after)) (sym was_adds) ∙ ap (λ f. replaced all (figures_in min e) f) (sym is_adds)
 
-  was_part : change.was ≡ part_of (row_of file) (find nat_cmp dn e.cells)
-  was_part = part.0 ∙ ap (λ (y : BlockEntry). part_of y.row (find nat_cmp dn e.cells)) was_so
+  was_part : change.was ≡ share_of (row_of file) (find nat_cmp dn e.cells)
+  was_part = part.0 ∙ ap (λ (y : BlockEntry). share_of y.row (find nat_cmp dn e.cells)) was_so
 
-  is_part : change.is ≡ part_of (row_of file) (Some c)
-  is_part = part.1 ∙ ap (λ (y : BlockEntry). part_of y.row (Some c)) was_so
+  is_part : change.is ≡ share_of (row_of file) (Some c)
+  is_part = part.1 ∙ ap (λ (y : BlockEntry). share_of y.row (Some c)) was_so
 
   was_class : (class : Class) → one_if (is_class class change.was.class) ≡ weight (has file class) (find nat_cmp dn e.cells)
   was_class class = ap (λ q. one_if (is_class class q.class)) was_part ∙ sym (class_weight (row_of file) class (find nat_cmp dn e.cells))
@@ -295,7 +295,7 @@ same_if true false h = cc
 same_if false true h = cc
 same_if false false h = refl
 
-pub changed_of : (e : BlockEntry) (dn : ℕ) (f : BlockEntry) (change : Change) → IsChange e dn f (Some change) → (c : Cell) × (f ≡ with_cell e dn c) × IsChangedPart e.row (find nat_cmp dn e.cells) c (Some change)
+pub changed_of : (e : BlockEntry) (dn : ℕ) (f : BlockEntry) (change : Difference) → IsChange e dn f (Some change) → (c : Cell) × (f ≡ with_cell e dn c) × IsChangedShare e.row (find nat_cmp dn e.cells) c (Some change)
 changed_of e dn f change (inl h) = let no = h.1 in cc
 changed_of e dn f change (inr h) = h
 
@@ -304,7 +304,7 @@ pub none_told : (min dn : ℕ) (all : Figures) (e is : BlockEntry) (xs : Cells) 
     → MayReplace all (figures_in min e) (figures_in min is) → all ≡ replaced all (figures_in min e) (figures_in min is)
 none_told min dn all e is xs file v s (inl h) m = unchanged min all e is h.0 m
 none_told min dn all e is xs file v s (inr h) m =
-    let change : Change = record { was = part_of e.row (find nat_cmp dn e.cells); is = part_of e.row (Some h.0) } in
+    let change : Difference = record { was = share_of e.row (find nat_cmp dn e.cells); is = share_of e.row (Some h.0) } in
     let may = may_recount min dn all e is xs file v h.0 h.1 s m change (refl, refl) in
     recounts min dn all e is xs file v h.0 h.1 s m change (refl, refl) all (recounts_nothing all change may (sym h.2))
     (stands_same min dn all e is xs file v h.0 h.1 s m change (refl, refl) (ap (λ q. is_class Live q.class) (sym h.2)))

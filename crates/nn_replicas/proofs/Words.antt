@@ -6,7 +6,7 @@ use Rattle.nn_types.specs.declared.replica.Replica.{Replica}
 use Rattle.nn_replicas.specs.declared.entry.Cell.{Cell}
 use Rattle.nn_replicas.specs.declared.entry.Told.TheVariants.{Room, HasNone}
 use Rattle.nn_replicas.specs.Table.{BlockEntry}
-use Rattle.nn_replicas.specs.Entry.{no_cell, cell_erased, cell_of, has_cell, with_cell, with_place, with_erased, with_told, with_word, told_of}
+use Rattle.nn_replicas.specs.Entry.{no_cell, cell_erased, cell_of, has_cell, with_cell, with_place, with_erased, with_told, with_word, told_by}
 use Rattle.nn_replicas.specs.Calls.{reaches, with_due}
 use Rattle.nn_replicas.specs.Entry.{stamp_in}
 use Rattle.nn_replicas.proofs.Entries.{put_same}
@@ -25,7 +25,7 @@ room_word e dn s = cases (find nat_cmp dn e.cells) refl
         ap (with_cell e dn) (cell_is e dn (Some c) h) ∙ ap {B = BlockEntry} (λ xs. record e { cells = xs }) (put_same dn c e.cells h s) ∙ sym (ap (λ o. cond (is_some o) e (with_cell e dn no_cell)) h)
 
 -- what is said makes its own room
-pub told_word : (e : BlockEntry) (dn : ℕ) (r : Option Replica) → with_word e dn (told_of r) ≡ with_told e dn r
+pub told_word : (e : BlockEntry) (dn : ℕ) (r : Option Replica) → with_word e dn (told_by r) ≡ with_told e dn r
 told_word e dn (Some r) = refl
 told_word e dn None = cases (find nat_cmp dn e.cells) refl
   where
@@ -43,7 +43,7 @@ told_word e dn None = cases (find nat_cmp dn e.cells) refl
         let at : with_erased e dn ≡ erased (cell_of e dn) = ap (λ o. cond (is_some o) (erased (cell_of e dn)) e) h in
         sym at ∙ sym (ap (λ o. with_erased (cond (is_some o) e (with_cell e dn no_cell)) dn) h)
 
-pub due_word : (e : BlockEntry) (dn stamp : ℕ) (r : Option Replica) → reaches (stamp_in e.row) stamp ≡ true → with_word e dn (told_of r) ≡ with_due e dn stamp r
+pub due_word : (e : BlockEntry) (dn stamp : ℕ) (r : Option Replica) → reaches (stamp_in e.row) stamp ≡ true → with_word e dn (told_by r) ≡ with_due e dn stamp r
 due_word e dn stamp r h = told_word e dn r ∙ sym (ap (λ b. cond b (with_told e dn r) (with_place e dn)) h)
 
 pub early_word : (e : BlockEntry) (dn stamp : ℕ) (r : Option Replica) → is_sorted nat_cmp e.cells ≡ true → reaches (stamp_in e.row) stamp ≡ false → with_word e dn Room ≡ with_due e dn stamp r

@@ -9,12 +9,12 @@ use Rattle.std.specs.Ordering.{is_lt}
 use Rattle.std.proofs.lemmas.List.Edits.{map_over_more}
 use Rattle.std.proofs.lemmas.Bool.{both_ways}
 use Rattle.nn_replicas.specs.declared.entry.Cell.{Cell}
-use Rattle.nn_replicas.specs.declared.entry.Change.{Change}
-use Rattle.nn_replicas.specs.declared.entry.Part.{Part}
+use Rattle.nn_replicas.specs.declared.entry.Difference.{Difference}
+use Rattle.nn_replicas.specs.declared.entry.Share.{Share}
 use Rattle.nn_replicas.specs.declared.entry.FileBlock.{FileBlock}
 use Rattle.nn_replicas.specs.Table.{BlockEntry}
 use Rattle.nn_replicas.specs.Entry.{row_of, replication_of, is_ordered, no_cell, cell_erased, cell_retired, cell_of, has_cell, with_cell, with_place, with_erased}
-use Rattle.nn_replicas.specs.Figures.{one_if, grown, no_part, part_of, IsChangedPart, IsChange}
+use Rattle.nn_replicas.specs.Figures.{one_if, grown, no_share, share_of, IsChangedShare, IsChange}
 use Rattle.nn_replicas.specs.Scan.{place, is_here}
 use Rattle.nn_replicas.proofs.Entries.{put_sorted, length_put}
 use Rattle.nn_replicas.proofs.Scanned.{put_here, put_new, find_here, find_gone, here_at, not_here}
@@ -72,29 +72,29 @@ wrote_new e file xs fs dn k named z f v s p h g n m =
 -- ---- what changed
 
 -- the cell that stood was written
-pub changed_here : (e : BlockEntry) (file : Option FileBlock) (xs : Cells) (dn k : ℕ) (x z : ℕ × Cell) (w : Cell) (change : Option Change)
+pub changed_here : (e : BlockEntry) (file : Option FileBlock) (xs : Cells) (dn k : ℕ) (x z : ℕ × Cell) (w : Cell) (change : Option Difference)
     → entry file xs ≡ e → k ≡ place dn xs → is_here dn xs ≡ true → x ≡ get_or xs k x → z ≡ (x.0, w)
-    → IsChangedPart (row_of file) (Some x.1) z.1 change
+    → IsChangedShare (row_of file) (Some x.1) z.1 change
     → IsChange e dn (entry file (set xs k z)) change
 changed_here e file xs dn k x z w change v p h g m c =
     let found : find nat_cmp dn xs ≡ Some x.1 = find_here dn xs x h ∙ ap (λ j. Some (get_or xs j x).1) (sym p) ∙ ap (λ (y : ℕ × Cell). Some y.1) (sym g) in
     inr (
       z.1,
       wrote_here e file xs dn k (is_some file) x z (λ b y. z.1) v p h g refl (m ∙ ap (λ (y : Cell). (x.0, y)) (ap (λ (y : ℕ × Cell). y.1) (sym m))),
-      subst (λ (y : BlockEntry). IsChangedPart y.row (find nat_cmp dn y.cells) z.1 change) v (subst (λ o. IsChangedPart (row_of file) o z.1 change) (sym found) c),
+      subst (λ (y : BlockEntry). IsChangedShare y.row (find nat_cmp dn y.cells) z.1 change) v (subst (λ o. IsChangedShare (row_of file) o z.1 change) (sym found) c),
     )
 
 -- the DataNode was not placed
-pub changed_new : (e : BlockEntry) (file : Option FileBlock) (xs fs : Cells) (dn k : ℕ) (z : ℕ × Cell) (w : Cell) (was is : Part)
+pub changed_new : (e : BlockEntry) (file : Option FileBlock) (xs fs : Cells) (dn k : ℕ) (z : ℕ × Cell) (w : Cell) (was is : Share)
     → entry file xs ≡ e → is_sorted nat_cmp xs ≡ true → k ≡ place dn xs → is_here dn xs ≡ false → fs ≡ insert xs k z → z ≡ (dn, w)
-    → was ≡ no_part → is ≡ part_of (row_of file) (Some z.1)
+    → was ≡ no_share → is ≡ share_of (row_of file) (Some z.1)
     → IsChange e dn (entry file fs) (Some (record { was = was; is = is }))
 changed_new e file xs fs dn k z w was is v s p h g m a b =
     inr (
       z.1,
       wrote_new e file xs fs dn k (is_some file) z (λ b y. z.1) v s p h g refl (m ∙ ap (λ (y : Cell). (dn, y)) (ap (λ (y : ℕ × Cell). y.1) (sym m))),
-      subst (λ (y : BlockEntry). IsChangedPart y.row (find nat_cmp dn y.cells) z.1 (Some (record { was = was; is = is }))) v
-          (subst (λ o. IsChangedPart (row_of file) o z.1 (Some (record { was = was; is = is }))) (sym (find_gone dn xs s h)) (a, b)),
+      subst (λ (y : BlockEntry). IsChangedShare y.row (find nat_cmp dn y.cells) z.1 (Some (record { was = was; is = is }))) v
+          (subst (λ o. IsChangedShare (row_of file) o z.1 (Some (record { was = was; is = is }))) (sym (find_gone dn xs s h)) (a, b)),
     )
 
 -- ---- whether there is a cell

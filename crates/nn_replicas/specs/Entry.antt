@@ -38,9 +38,9 @@ cell_told named Room c = c
 cell_told named (Has r) c = cell_put named r c
 cell_told named HasNone c = cell_erased named c
 
-abbrev pub told_of : Option Replica → Told
-told_of None = HasNone
-told_of (Some r) = Has r
+abbrev pub told_by : Option Replica → Told
+told_by None = HasNone
+told_by (Some r) = Has r
 
 -- the block leaves its file: a replica becomes an order
 abbrev pub cell_retired : Cell → Cell

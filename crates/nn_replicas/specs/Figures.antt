@@ -11,8 +11,8 @@ use Rattle.nn_model.specs.Counts.{class_of}
 use Rattle.nn_model.specs.declared.form.BlockRow.{BlockRow}
 use Rattle.nn_replicas.specs.declared.entry.Cell.{Cell}
 use Rattle.nn_replicas.specs.declared.entry.Classes.{Classes}
-use Rattle.nn_replicas.specs.declared.entry.Change.{Change}
-use Rattle.nn_replicas.specs.declared.entry.Part.{Part}
+use Rattle.nn_replicas.specs.declared.entry.Difference.{Difference}
+use Rattle.nn_replicas.specs.declared.entry.Share.{Share}
 use Rattle.nn_replicas.specs.declared.entry.Standing.{Standing}
 use Rattle.nn_replicas.specs.declared.figures.Figures.{Figures}
 use Rattle.nn_replicas.specs.Table.{BlockEntry, Replicas}
@@ -233,28 +233,28 @@ abbrev pub class_by_row : Option BlockRow → Cell → Option Class
 class_by_row None c = None
 class_by_row (Some row) c = option_map (λ r. class_of r row.block) c.replica
 
-abbrev pub no_part : Part
-no_part = record { placed = false; ordered = false; class = None }
+abbrev pub no_share : Share
+no_share = record { placed = false; ordered = false; class = None }
 
 -- a DataNode that was placed at a block with this row, or was not
-abbrev pub part_of : Option BlockRow → Option Cell → Part
-part_of row None = no_part
-part_of row (Some c) = record { placed = true; ordered = c.ordered; class = class_by_row row c }
+abbrev pub share_of : Option BlockRow → Option Cell → Share
+share_of row None = no_share
+share_of row (Some c) = record { placed = true; ordered = c.ordered; class = class_by_row row c }
 
 -- it adds as much as before, or something else now
-abbrev pub IsChangedPart : Option BlockRow → Option Cell → Cell → Option Change → Type 0
-IsChangedPart row was is None = part_of row (Some is) ≡ part_of row was
-IsChangedPart row was is (Some change) = (change.was ≡ part_of row was) × (change.is ≡ part_of row (Some is))
+abbrev pub IsChangedShare : Option BlockRow → Option Cell → Cell → Option Difference → Type 0
+IsChangedShare row was is None = share_of row (Some is) ≡ share_of row was
+IsChangedShare row was is (Some change) = (change.was ≡ share_of row was) × (change.is ≡ share_of row (Some is))
 
 -- all is as it was, or the DataNode's cell is another one, which adds so much
-abbrev pub IsChange : BlockEntry → ℕ → BlockEntry → Option Change → Type 0
-IsChange e dn f change = ((f ≡ e) × (change ≡ None)) ⊎ ((c : Cell) × (f ≡ with_cell e dn c) × IsChangedPart e.row (find nat_cmp dn e.cells) c change)
+abbrev pub IsChange : BlockEntry → ℕ → BlockEntry → Option Difference → Type 0
+IsChange e dn f change = ((f ≡ e) × (change ≡ None)) ⊎ ((c : Cell) × (f ≡ with_cell e dn c) × IsChangedShare e.row (find nat_cmp dn e.cells) c change)
 
-abbrev changed_class : Class → ℕ → Change → ℕ
+abbrev changed_class : Class → ℕ → Difference → ℕ
 changed_class class all change = (all - one_if (is_class class change.was.class)) + one_if (is_class class change.is.class)
 
 -- a DataNode added `was`, and adds `is`
-abbrev pub recounted : Figures → Change → Figures
+abbrev pub recounted : Figures → Difference → Figures
 recounted all change = record all {
   stale = changed_class Stale all.stale change;
   ahead = changed_class Ahead all.ahead change;
@@ -263,7 +263,7 @@ recounted all change = record all {
   places = (all.places - one_if change.was.placed) + one_if change.is.placed;
 }
 
-pub record MayRecount (all : Figures) (change : Change) : Type 0 where
+pub record MayRecount (all : Figures) (change : Difference) : Type 0 where
   pub stale : Changes all.stale (one_if (is_class Stale change.was.class)) (one_if (is_class Stale change.is.class))
   pub ahead : Changes all.ahead (one_if (is_class Ahead change.was.class)) (one_if (is_class Ahead change.is.class))
   pub wrong_length : Changes all.wrong_length (one_if (is_class WrongLength change.was.class)) (one_if (is_class WrongLength change.is.class))

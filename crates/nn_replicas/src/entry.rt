@@ -9,9 +9,9 @@ ghost use Rattle.std.specs.Option.{option_map};
 ghost use Rattle.nn_model.specs.Counts.{class_of};
 ghost use Rattle.nn_replicas.specs.Scan.{place, is_here};
 ghost use Rattle.nn_replicas.specs.Table.{BlockEntry};
-ghost use Rattle.nn_replicas.specs.Entry.{replicas_in, orders_in, is_ordered, ordered_in, cell_retired, no_entry, is_idle, is_idle_cell, has_cell, entry_with_row, with_place, with_put, with_erased, with_word, told_of, cell_told, row_of, retired, stamp_in, live_cells};
+ghost use Rattle.nn_replicas.specs.Entry.{replicas_in, orders_in, is_ordered, ordered_in, cell_retired, no_entry, is_idle, is_idle_cell, has_cell, entry_with_row, with_place, with_put, with_erased, with_word, told_by, cell_told, row_of, retired, stamp_in, live_cells};
 ghost use Rattle.nn_replicas.specs.Calls.{reaches, with_due};
-ghost use Rattle.nn_replicas.specs.Figures.{classes_in, no_classes, with_class, is_class, no_part, part_of, IsChange, IsChangedPart, HaveRoom, figures_in, standing_of, replaced, MayReplace, too_few, one_if, grown};
+ghost use Rattle.nn_replicas.specs.Figures.{classes_in, no_classes, with_class, is_class, no_share, share_of, IsChange, IsChangedShare, HaveRoom, figures_in, standing_of, replaced, MayReplace, too_few, one_if, grown};
 
 use crate::classes::class;
 use crate::figures::Figures;
@@ -44,7 +44,7 @@ pub enum Told {
 
 /// What a DataNode adds to the figures of a block.
 #[derive(Clone, Copy, Debug, PartialEq, Eq)]
-pub struct Part {
+pub struct Share {
     pub placed: bool,
     pub ordered: bool,
     /// Of its replica, where a file holds the block and the DataNode has one.
@@ -53,9 +53,9 @@ pub struct Part {
 
 /// What one DataNode added, and adds from now on.
 #[derive(Clone, Copy, Debug)]
-pub struct Change {
-    pub was: Part,
-    pub is: Part,
+pub struct Difference {
+    pub was: Share,
+    pub is: Share,
 }
 
 // A block as a file holds it. The replication is the file's.
@@ -155,7 +155,7 @@ impl Entry {
 
     // The figures of a table behind a change of one cell of this entry of it. Where no live replica came or went it looks at no
     // other cell.
-    pub fn recount(&self, min: u16, figures: &mut Figures, change: Option<Change>)
+    pub fn recount(&self, min: u16, figures: &mut Figures, change: Option<Difference>)
         requires { (e : BlockEntry) × (dn : ℕ) × IsChange e dn self.now change × IsTrue (is_sorted nat_cmp e.cells)
             × MayReplace figures.old (figures_in min e) (figures_in min self.now) }
         ensures { (e : BlockEntry) → (dn : ℕ) → IsChange e dn self.now change → IsTrue (is_sorted nat_cmp e.cells)
@@ -205,7 +205,7 @@ impl Entry {
     }
 
     // Writes what is said into the DataNode's cell, for which there is room from now on. Answers none where it was so already.
-    fn write(&mut self, dn: u16, told: Told) -> Result<Option<Change>, AllocError>
+    fn write(&mut self, dn: u16, told: Told) -> Result<Option<Difference>, AllocError>
         ensures ok { OnOk result (self.new ≡ with_word self.old dn told) }
         ensures change { IfOk result (λ change. IsChange self.old dn self.new change) }
         ensures places { OnOk result (length self.new.cells ≡ grown self.old dn) }
@@ -224,16 +224,16 @@ impl Entry {
         }
         let mut slot = Slot::new(dn);
         slot.write(named, told);
-        let is = part_of(&slot, &file);
+        let is = share_of(&slot, &file);
         self.cells.insert(place, slot)?;
-        Ok(Some(Change {
-            was: Part::none(),
+        Ok(Some(Difference {
+            was: Share::none(),
             is,
         }))
     }
 
     // Makes room for the DataNode, which stays.
-    pub fn place(&mut self, dn: u16) -> Result<Option<Change>, AllocError>
+    pub fn place(&mut self, dn: u16) -> Result<Option<Difference>, AllocError>
         ensures ok { OnOk result (self.new ≡ with_place self.old dn) }
         ensures change { IfOk result (λ change. IsChange self.old dn self.new change) }
         ensures places { OnOk result (length self.new.cells ≡ grown self.old dn) }
@@ -245,7 +245,7 @@ impl Entry {
     }
 
     // Sets a replica where the block has a row, an order where it has none.
-    pub fn put(&mut self, dn: u16, replica: Replica) -> Result<Option<Change>, AllocError>
+    pub fn put(&mut self, dn: u16, replica: Replica) -> Result<Option<Difference>, AllocError>
         ensures ok { OnOk result (self.new ≡ with_put self.old dn replica) }
         ensures change { IfOk result (λ change. IsChange self.old dn self.new change) }
         ensures places { OnOk result (length self.new.cells ≡ grown self.old dn) }
@@ -257,7 +257,7 @@ impl Entry {
     }
 
     // Takes away the replica where the block has a row, the order where it has none.
-    pub fn erase(&mut self, dn: u16) -> Option<Change>
+    pub fn erase(&mut self, dn: u16) -> Option<Difference>
         ensures erased { self.new ≡ with_erased self.old dn }
         ensures change { IsChange self.old dn self.new result }
         ensures places { length self.new.cells ≡ length self.old.cells }
@@ -280,7 +280,7 @@ impl Entry {
         dn: u16,
         stamp: GenerationStamp,
         replica: Option<Replica>,
-    ) -> Result<Option<Change>, AllocError>
+    ) -> Result<Option<Difference>, AllocError>
         ensures ok { OnOk result (self.new ≡ with_due self.old dn stamp replica) }
         ensures change { IfOk result (λ change. IsChange self.old dn self.new change) }
         ensures places { OnOk result (length self.new.cells ≡ grown self.old dn) }
@@ -291,7 +291,7 @@ impl Entry {
         if !reaches(&self.stamp(), stamp) {
             return self.write(dn, Told::Room);
         }
-        self.write(dn, told_of(replica))
+        self.write(dn, told_by(replica))
     }
 
     // The generation stamp of the row.
@@ -382,8 +382,8 @@ fn reaches(named: &Option<GenerationStamp>, stamp: GenerationStamp) -> bool
 }
 
 // What is said of a DataNode that has this replica, or none.
-fn told_of(replica: Option<Replica>) -> Told
-    ensures { result ≡ told_of replica }
+fn told_by(replica: Option<Replica>) -> Told
+    ensures { result ≡ told_by replica }
 {
     match replica {
         None => Told::HasNone,
@@ -517,12 +517,12 @@ fn is_live(class: Option<Class>) -> bool
     class == Some(Class::Live)
 }
 
-impl Part {
+impl Share {
     // Of a DataNode that was not placed.
-    fn none() -> Part
-        ensures { result ≡ no_part }
+    fn none() -> Share
+        ensures { result ≡ no_share }
     {
-        Part {
+        Share {
             placed: false,
             ordered: false,
             class: None,
@@ -531,14 +531,14 @@ impl Part {
 }
 
 // What the DataNode adds to a block that is held so.
-fn part_of(slot: &Slot, file: &Option<FileBlock>) -> Part
-    ensures { result ≡ part_of (row_of file.now) (Some slot.now.1) }
+fn share_of(slot: &Slot, file: &Option<FileBlock>) -> Share
+    ensures { result ≡ share_of (row_of file.now) (Some slot.now.1) }
 {
     let class = match file {
         None => None,
         Some(file) => class_in(slot, &file.block),
     };
-    Part {
+    Share {
         placed: true,
         ordered: slot.ordered(),
         class,
@@ -546,20 +546,20 @@ fn part_of(slot: &Slot, file: &Option<FileBlock>) -> Part
 }
 
 // Writes what is said into a cell of a block that is held so. Answers none where it adds as much as before.
-fn write_slot(slot: &mut Slot, file: &Option<FileBlock>, told: Told) -> Option<Change>
+fn write_slot(slot: &mut Slot, file: &Option<FileBlock>, told: Told) -> Option<Difference>
     ensures cell { slot.new ≡ (slot.old.0, cell_told (is_some file.now) told slot.old.1) }
-    ensures change { IsChangedPart (row_of file.now) (Some slot.old.1) slot.new.1 result }
+    ensures change { IsChangedShare (row_of file.now) (Some slot.old.1) slot.new.1 result }
 {
     if let Told::Room = told {
         return None;
     }
-    let was = part_of(slot, file);
+    let was = share_of(slot, file);
     slot.write(file.is_some(), told);
-    let is = part_of(slot, file);
+    let is = share_of(slot, file);
     if was == is {
         return None;
     }
-    Some(Change { was, is })
+    Some(Difference { was, is })
 }
 
 // How many live replicas the block has.

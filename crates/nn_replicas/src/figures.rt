@@ -2,7 +2,7 @@
 ghost use Rattle.std.specs.Prelude.{◌≡◌, ◌+◌, ◌-◌};
 ghost use Rattle.nn_replicas.specs.Figures.{no_figures, replaced, recounted, restood, Changes, MayRecount, MayReplace, MayRestand};
 
-use crate::entry::{Change, Standing};
+use crate::entry::{Difference, Standing};
 use nn_types::Class;
 
 /// How many blocks, replicas and orders of each kind a table has.
@@ -85,7 +85,7 @@ impl Figures {
     }
 
     // The places, the orders and the replicas that are not live, once a DataNode adds what it adds now.
-    pub(crate) fn recount(&mut self, change: &Change)
+    pub(crate) fn recount(&mut self, change: &Difference)
         requires { MayRecount self.old change.now }
         ensures { self.new ≡ recounted self.old change.now }
     {

@@ -13,4 +13,4 @@ returns-then-not-reaches-clause-ok c =
 pub returns-clause-ok : goal.returns-clause-ok
 returns-clause-ok c =
     let h = sym (c.reaches.ensures ∙ ap (λ o. reaches o c.args.stamp) c.stamp.ensures) ∙ c.if-not-reaches.false in
-    on_ok_weaker c.write-2.result (λ e. e ∙ ap (with_word c.args.self.now c.args.dn) c.told_of.ensures ∙ due_word c.args.self.now c.args.dn c.args.stamp c.args.replica h) c.write-2.ensures.ok
+    on_ok_weaker c.write-2.result (λ e. e ∙ ap (with_word c.args.self.now c.args.dn) c.told_by.ensures ∙ due_word c.args.self.now c.args.dn c.args.stamp c.args.replica h) c.write-2.ensures.ok

@@ -62,8 +62,8 @@ returns-clause-change c =
     let k = c.place_of-place.ensures ∙ ap (place c.args.dn) c.as_slice.ensures in
     let h = sym (c.if-has_cell.ensures ∙ ap (is_here c.args.dn) c.as_slice-2.ensures) in
     let new = c.write.ensures ∙ ap (λ s. (s.0, cell_told c.is_some-named.result c.args.told s.1)) c.new-slot.ensures in
-    changed_new c.args.self.now c.self.inside.file c.self.inside.cells.items _ c.args.dn c.place_of-place.result c.write.new.self _ c.none.result c.part_of-is.result
-    c.self.view_is c.self.invariant k h c.in_ok-insert.ensures.ok new c.none.ensures c.part_of-is.ensures
+    changed_new c.args.self.now c.self.inside.file c.self.inside.cells.items _ c.args.dn c.place_of-place.result c.write.new.self _ c.none.result c.share_of-is.result
+    c.self.view_is c.self.invariant k h c.in_ok-insert.ensures.ok new c.none.ensures c.share_of-is.ensures
 
 pub returns-then-has_cell-clause-places : goal.returns-then-has_cell-clause-places
 returns-then-has_cell-clause-places c =

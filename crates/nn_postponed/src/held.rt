@@ -5,8 +5,8 @@ ghost use Rattle.nn_postponed.specs.Flat.{flat};
 
 use crate::queue::Queue;
 use crate::waiting::Waiting;
+use nn_sorted::Entries;
 use nn_types::{BlockId, Message};
-use std::collections::btree_map::Iter;
 use std::marker::Model;
 
 /// All messages that wait, by ascending block and, for one block, in the order of arrival. It takes no memory, and one pass over
@@ -16,7 +16,7 @@ pub struct Held<'a> {
     // what is left of the queue in hand
     queue: Waiting<'a>,
     // the queues behind it
-    queues: Iter<'a, BlockId, Queue>,
+    queues: Entries<'a, BlockId, Queue>,
 }
 
 impl<'a> Model for Held<'a> {
@@ -30,7 +30,7 @@ impl<'a> Model for Held<'a> {
 }
 
 impl<'a> Held<'a> {
-    pub(crate) fn new(queues: Iter<'a, BlockId, Queue>) -> Held<'a>
+    pub(crate) fn new(queues: Entries<'a, BlockId, Queue>) -> Held<'a>
         ensures { result ≡ flat queues.entry }
     {
         Held {

@@ -1,9 +1,11 @@
 //! The held messages.
-ghost use Rattle.std.specs.Prelude.{◌≡◌, ◌<◌, ◌≤◌, ◌^◌, ◌+◌, ◌↔◌, List, [], ◌∷◌, length, take, None, true, false, IsTrue, IfSome, IfNone, OnOk, OnErr, IfErr};
+ghost use Rattle.std.specs.Prelude.{◌≡◌, ℕ, cond, ◌<◌, ◌≤◌, ◌^◌, ◌+◌, ◌↔◌, List, [], ◌∷◌, length, take, None, true, false, IsTrue, IfSome, IfNone, OnOk, OnErr, IfErr};
 ghost use Rattle.std.specs.Ordering.{nat_cmp};
-ghost use Rattle.std.specs.BTreeMap.{IsOrdered, UpdatesBy, is_at};
-ghost use Rattle.std.specs.Map.{remove_entry};
+ghost use Rattle.std.specs.BTreeMap.{is_at};
+ghost use Rattle.std.specs.List.Sorted.{IsStrictlySortedBy};
+ghost use Rattle.std.specs.Map.{keys_of, remove_entry};
 ghost use Rattle.std.specs.List.{list_any};
+ghost use Rattle.nn_sorted.specs.Values.{value_at};
 ghost use Rattle.nn_types.specs.declared.report.Message.{Message};
 ghost use Rattle.nn_types.specs.declared.fault.TheConstants.{MEMORY};
 ghost use Rattle.nn_model.specs.Stands.{AreByBlock};
@@ -15,9 +17,9 @@ use crate::counts::Counts;
 use crate::held::Held;
 use crate::queue::Queue;
 use crate::waiting::Waiting;
+use nn_sorted::SortedMap;
 use nn_types::{BlockId, Message, Status, fault};
 use std::alloc::{AllocError, Global};
-use std::collections::BTreeMap;
 use std::marker::Model;
 use thiserror::Error;
 
@@ -42,15 +44,17 @@ const LIMIT: usize = 9223372036854775807;
 
 /// The messages that wait.
 ///
-/// Each block about which messages wait has a queue of its own. A call takes O(log blocks + DataNodes of the block), in the
-/// mean over all calls where it takes a message: from time to time the messages that are left close up in one pass, and
-/// what comes next of its DataNode is looked for, past each message once for each DataNode. `due_count`, and `queue` to its
-/// end, are one pass over the block's queue each. A queue that has become empty leaves the map.
+/// Each block about which messages wait has a queue of its own. The queues stand in chunks, by ascending block. A call takes
+/// O(log blocks + DataNodes of the block), in the mean over all calls where it takes a message: from time to time the
+/// messages that are left close up in one pass, and what comes next of its DataNode is looked for, past each message once
+/// for each DataNode. A queue that comes or goes moves those behind it in its chunk, 64 at most, and sometimes chunks.
+/// `due_count`, and `queue` to its end, are one pass over the block's queue each. A queue that has become empty leaves the
+/// map.
 ///
 /// The messages of each DataNode are counted, in eight bytes for each DataNode up to the highest from which one was held.
 #[derive(Debug, Drop)]
 pub struct Postponed {
-    queues: BTreeMap<BlockId, Queue>,
+    queues: SortedMap<BlockId, Queue>,
     // how many messages there are in all queues
     count: usize,
     // and how many of them are from each DataNode
@@ -60,7 +64,8 @@ pub struct Postponed {
 
 impl Model for Postponed {
     ghost use Rattle.std.specs.Prelude.{◌≡◌, ◌<◌, ◌^◌, List, length};
-    ghost use Rattle.std.specs.BTreeMap.{IsOrdered};
+    ghost use Rattle.std.specs.List.Sorted.{IsStrictlySortedBy};
+    ghost use Rattle.std.specs.Map.{keys_of};
     ghost use Rattle.std.specs.Ordering.{nat_cmp};
     ghost use Rattle.nn_types.specs.declared.report.Message.{Message};
     ghost use Rattle.nn_postponed.specs.Flat.{flat, AreOwn};
@@ -68,9 +73,9 @@ impl Model for Postponed {
 
     ghost Value = { List Message };
 
-    ghost view = { λ p. flat p.queues.entries };
+    ghost view = { λ p. flat p.queues };
 
-    ghost invariant = { λ p. IsOrdered nat_cmp p.queues × AreOwn p.queues.entries × (p.count ≡ length (flat p.queues.entries)) × (p.count < 2 ^ 63) × AreCounted p.counts (flat p.queues.entries) };
+    ghost invariant = { λ p. IsStrictlySortedBy nat_cmp (keys_of p.queues) × AreOwn p.queues × (p.count ≡ length (flat p.queues)) × (p.count < 2 ^ 63) × AreCounted p.counts (flat p.queues) };
 }
 
 impl Postponed {
@@ -79,7 +84,7 @@ impl Postponed {
         ensures { result ≡ [] }
     {
         Postponed {
-            queues: BTreeMap::new(alloc),
+            queues: SortedMap::new(alloc),
             count: 0,
             counts: Counts::new(alloc),
             alloc,
@@ -256,7 +261,7 @@ impl Postponed {
         ensures order { AreByBlock self.now }
         ensures ids { HaveIds self.now }
     {
-        let Some((block, _)) = self.queues.range(from..).next() else {
+        let Some((block, _)) = self.queues.iter_from(&from).next() else {
             return None;
         };
         Some(*block)
@@ -267,7 +272,7 @@ impl Postponed {
         ensures some { IfSome result (λ m. self.old ≡ m ∷ self.new) }
         ensures none { IfNone result ((self.old ≡ []) × (self.new ≡ self.old)) }
     {
-        let Some((block, _)) = self.queues.first_key_value() else {
+        let Some((block, _)) = self.queues.iter().next() else {
             return None;
         };
         let block = *block;
@@ -316,7 +321,7 @@ impl Postponed {
 
 // A message of this DataNode went from a block's queue, which goes as well where it is empty now.
 fn one_went(
-    queues: &mut BTreeMap<BlockId, Queue>,
+    queues: &mut SortedMap<BlockId, Queue>,
     count: &mut usize,
     counts: &mut Counts,
     block: BlockId,
@@ -325,7 +330,7 @@ fn one_went(
 )
     requires count { 0 < count.old }
     requires from { 0 < count_of dn counts.old }
-    ensures emptied { is_empty ≡ true → IsOrdered nat_cmp queues.new × UpdatesBy nat_cmp (nat_cmp block) queues.old queues.new None × (queues.new.entries ≡ remove_entry (is_at (nat_cmp block)) queues.old.entries) }
+    ensures emptied { is_empty ≡ true → IsStrictlySortedBy nat_cmp (keys_of queues.new) × ((b : ℕ) → value_at nat_cmp queues.new b ≡ cond (is_at (nat_cmp block) b) None (value_at nat_cmp queues.old b)) × (queues.new ≡ remove_entry (is_at (nat_cmp block)) queues.old) }
     ensures kept { is_empty ≡ false → queues.new ≡ queues.old }
     ensures count { count.new + 1 ≡ count.old }
     ensures counts { OneMore dn counts.new counts.old }

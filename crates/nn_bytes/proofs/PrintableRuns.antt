@@ -1,13 +1,13 @@
--- Runs of printable bytes.
-use Rattle.std.proofs.Common.{length, ◌==◌, ◌≡◌, ℕ, zero, suc, ◌+◌, ◌<◌, Bool, true, false, cond, nat_le, nat_lt, ◌&&◌, List, [], ◌∷◌, get_or, take, ltb-true, arith, refl, sym, ap, ap₂, ◌∙◌, drop, ◌≤◌}
+-- Runs of printable bytes, and of bytes that need no escape.
+use Rattle.std.proofs.Common.{length, ◌==◌, ◌≡◌, ℕ, zero, suc, ◌+◌, ◌-◌, ◌<◌, Bool, true, false, cond, nat_le, nat_lt, ◌&&◌, List, [], ◌∷◌, get_or, take, ltb-true, ltb-false, arith, refl, sym, subst, ap, ap₂, ◌∙◌, drop, ◌≤◌}
 use Rattle.std.specs.List.{list_all, prefix_len}
 use Rattle.std.specs.Str.{IsUtf8}
-use Rattle.std.proofs.lemmas.Bool.{and_parts, eqb-false, eqb-true}
-use Rattle.std.proofs.lemmas.List.{length-drop, take_all}
-use Rattle.std.proofs.lemmas.List.Folds.{list_all_at}
+use Rattle.std.proofs.lemmas.Bool.{and_from, and_parts, eqb-false, eqb-true}
+use Rattle.std.proofs.lemmas.List.{drop-take, get_or-take, get_or_past, length-drop, take-append-drop, take-take, take_all}
+use Rattle.std.proofs.lemmas.List.Folds.{list_all-append, list_all_at}
 use Rattle.std.proofs.lemmas.List.Sums.{prefix_len-le-length, prefix_len_stops}
 use Rattle.std.proofs.lemmas.Str.{IsUtf8-from_ascii}
-use Rattle.nn_bytes.specs.Runs.{is_printable, is_printable_byte}
+use Rattle.nn_bytes.specs.Runs.{is_printable, is_printable_byte, is_unescaped, is_unescaped_byte, is_unescaped_line}
 
 -- ---- A run passes, and is UTF-8.
 
@@ -66,3 +66,56 @@ last_block p d block i last run size before so_far loaded is =
     let whole : take 16 (drop last d) ≡ drop last d = take_all 16 (drop last d) (omega (arith, length-drop last d, size)) in
     let here : run ≡ prefix_len p (drop last d) = is ∙ ap (prefix_len p) (loaded ∙ whole) in
     omega (arith, here, run_from p d last (omega (arith, so_far, before)))
+
+-- ---- Where all bytes pass, those of each part do.
+
+pub halves : (p : ℕ → Bool) (xs : List ℕ) (n : ℕ) → list_all p xs ≡ true → (list_all p (take n xs) ≡ true) × (list_all p (drop n xs) ≡ true)
+halves p xs n e = and_parts (list_all p (take n xs)) _ (sym (list_all-append p (take n xs) (drop n xs)) ∙ ap (list_all p) (take-append-drop n xs) ∙ e)
+
+pub both_halves : (p : ℕ → Bool) (xs : List ℕ) (n : ℕ) → list_all p (take n xs) ≡ true → list_all p (drop n xs) ≡ true → list_all p xs ≡ true
+both_halves p xs n front rest =
+    ap (list_all p) (sym (take-append-drop n xs)) ∙ list_all-append p (take n xs) (drop n xs) ∙ and_from _ _ front rest
+
+-- ---- A line that needs no escape.
+
+unescaped_if : (xs : List ℕ) → is_printable xs ≡ true → is_unescaped xs ≡ true
+unescaped_if [] e = refl
+unescaped_if (x ∷ xs) e =
+    let p = and_parts (is_printable_byte x) _ e in
+    let byte = and_parts (nat_le 32 x && nat_lt x 127) _ p.0 in
+    let low = and_parts (nat_le 32 x) _ byte.0 in
+    and_from _ _ (and_from _ _ low.0 byte.1) (unescaped_if xs p.1)
+
+pub printable_line : (line : List ℕ) (n : ℕ) → length line - 1 ≤ n → is_printable (take n line) ≡ true → is_unescaped_line line ≡ true
+printable_line line n most e =
+    let last = length line - 1 in
+    ap is_unescaped (sym (take-take last n line most)) ∙ (halves is_unescaped_byte (take n line) last (unescaped_if (take n line) e)).0
+
+-- The bytes up to one that is not printable need no escape, and those behind it up to the last.
+pub unescaped_behind : (line : List ℕ) (n : ℕ) → n ≤ length line - 1 → is_printable (take n line) ≡ true
+    → is_unescaped (take (length line - 1 - n) (drop n line)) ≡ true → is_unescaped_line line ≡ true
+unescaped_behind line n less front rest =
+    let last = length line - 1 in
+    let all : n + (last - n) ≡ last = omega (arith, less) in
+    let same : drop n (take last line) ≡ take (last - n) (drop n line) = ap (λ k. drop n (take k line)) (sym all) ∙ drop-take n (last - n) line in
+    both_halves is_unescaped_byte (take last line) n
+    (ap is_unescaped (take-take n last line less) ∙ unescaped_if (take n line) front)
+    (ap is_unescaped same ∙ rest)
+
+-- A carriage return behind printable bytes is ASCII as they are.
+pub return_is_ascii : (line : List ℕ) (n : ℕ) → length line ≡ n + 1 → is_printable (take n line) ≡ true → get_or line n 0 ≡ 13
+    → (i : ℕ) → get_or line i 0 < 128
+return_is_ascii line n size front there i = at (nat_lt i n) (i == n) refl refl
+  where
+    at : (less same : Bool) → nat_lt i n ≡ less → (i == n) ≡ same → get_or line i 0 < 128
+    at true same less is = subst (λ x. x < 128) (get_or-take n line i 0 (ltb-true i n less)) (all_ascii (take n line) front i)
+    at false true less is = omega (arith, ap (λ k. get_or line k 0) (eqb-true i n is) ∙ there)
+    at false false less is = omega (arith, get_or_past line i 0 (omega (arith, size, ltb-false i n less, eqb-false i n is)))
+
+-- ---- The run of a line.
+
+pub front_printable : (line : List ℕ) (n : ℕ) → n ≡ prefix_len is_printable_byte line → is_printable (take n line) ≡ true
+front_printable line n is = ap (λ k. is_printable (take k line)) is ∙ run_passes is_printable_byte line
+
+pub all_printable : (line : List ℕ) (n : ℕ) → n ≡ prefix_len is_printable_byte line → n ≡ length line → is_printable line ≡ true
+all_printable line n is whole = ap is_printable (sym (take_all n line (omega (arith, whole)))) ∙ front_printable line n is

@@ -1,5 +1,5 @@
-//! How far a text goes before a byte, or is printable, or has digits, looked for in 16 bytes at a time; and where a line ends,
-//! and whether it is blank.
+//! How far a text goes before a byte, or is printable, or has digits, looked for in 16 bytes at a time; a line as a text, where
+//! nothing in it is escaped; and where a line ends, and whether it is blank.
 #![tactic(auto)]
 
 ghost use Rattle.std.specs.Prelude.{◌≡◌, ◌+◌, ◌≤◌, ◌==◌, length, take, drop, cond, not};
@@ -10,11 +10,13 @@ ghost use Rattle.nn_bytes.specs.Runs.{is_other, is_neither};
 mod digits;
 mod lines;
 mod printable;
+mod unescaped;
 
 pub use digits::digit_run;
 pub use lines::{is_blank, line_end};
-pub use printable::{is_printable, printable_is_utf8, printable_run, printable_text};
+pub use printable::{printable_is_utf8, printable_run};
 use std::simd::prelude::*;
+pub use unescaped::unescaped_text;
 
 /// How many bytes stand before the first `byte`, or in all where there is none.
 ///

@@ -1,12 +1,11 @@
 //! How far a text is printable, looked for in 16 bytes at a time.
-ghost use Rattle.std.specs.Prelude.{◌≡◌, ◌≤◌, List, ℕ, length, map, take, true, false, None, IfSome};
+ghost use Rattle.std.specs.Prelude.{◌≡◌, ◌≤◌, List, ℕ, length, map, take, true};
 ghost use Rattle.std.specs.List.{prefix_len};
 ghost use Rattle.std.specs.Simd.Lanes.{mask_l};
 ghost use Rattle.std.specs.Str.{IsUtf8};
 ghost use Rattle.nn_bytes.specs.Runs.{is_printable, is_printable_byte, fails};
 
 use crate::{block_at, first_set};
-use percent_encoding::ascii_str;
 use std::simd::prelude::*;
 
 /// How many bytes stand before the first that is not printable ASCII or is a backslash, or in all where there is none.
@@ -34,35 +33,6 @@ pub fn printable_run(text: &[u8]) -> usize
         i += 1;
     }
     i
-}
-
-/// Whether all bytes are printable ASCII, and none is a backslash.
-#[inline(always)]
-pub fn is_printable(text: &[u8]) -> bool
-    ensures { result ≡ is_printable text.now }
-{
-    printable_run(text) == text.len()
-}
-
-/// The bytes as a text, if all are printable ASCII and none is a backslash.
-#[inline(always)]
-pub fn printable_text(bytes: &[u8]) -> Option<&str>
-    ensures some { IfSome result (λ text. (text.now ≡ bytes.now) × (is_printable text.now ≡ true)) }
-    ensures none { result ≡ None → is_printable bytes.now ≡ false }
-{
-    if !is_printable(bytes) {
-        return None;
-    }
-    Some(as_text(bytes))
-}
-
-// Printable bytes as a text. They are UTF-8, so nothing is asked of them.
-#[inline(always)]
-fn as_text(bytes: &[u8]) -> &str
-    requires { is_printable bytes.now ≡ true }
-    ensures { result.now ≡ bytes.now }
-{
-    ascii_str(bytes)
 }
 
 /// The bytes of a printable run pass, and they are UTF-8.

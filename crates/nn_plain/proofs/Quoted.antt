@@ -1,10 +1,12 @@
--- A text in quotes in a printable line: its bytes are its content.
-use Rattle.std.proofs.Common.{◌≡◌, ℕ, zero, suc, ◌+◌, ◌-◌, ◌<◌, ◌≤◌, length, get_or, List, [], ◌∷◌, ◌++◌, take, drop, Bool, true, false, cond, not, nat_le, nat_lt, ◌&&◌, ◌||◌, ◌==◌, le-ltb, leb-true, ltb-true, refl, sym, ap, ◌∙◌, arith}
+-- A text in quotes in a line without escapes: its bytes are its content.
+use Rattle.std.proofs.Common.{◌≡◌, ℕ, suc, ◌+◌, ◌-◌, ◌<◌, length, get_or, List, [], ◌∷◌, ◌++◌, take, drop, Bool, true, false, cond, not, nat_le, nat_lt, ◌&&◌, ◌||◌, ◌==◌, le-ltb, leb-true, refl, sym, ap, ◌∙◌, arith}
 use Rattle.std.proofs.lemmas.Bool.{and_parts, or_parts, not-true, eqb-false, ltb-false}
+use Rattle.std.proofs.lemmas.List.{drop-take, take-take}
 use Rattle.std.specs.List.{prefix_len}
 use Rattle.std.specs.Str.{IsUtf8, IsCharBoundary}
 use Rattle.std.proofs.lemmas.Str.{IsCharBoundary-after_ascii}
-use Rattle.nn_bytes.specs.Runs.{is_printable_byte, is_printable}
+use Rattle.nn_bytes.specs.Runs.{is_unescaped, is_unescaped_byte, is_unescaped_line}
+use Rattle.nn_bytes.proofs.PrintableRuns.{halves}
 use Rattle.nn_plain.specs.Bytes.{is_no_quote}
 use Rattle.nn_types.proofs.Lists.{between_places, byte_there}
 use Rattle.json.specs.Print.{escape, escape_byte}
@@ -36,34 +38,49 @@ plain_text d i stop is =
     let n : prefix_len is_plain (drop i d) ≡ stop - i = omega (arith, is) in
     ap (λ k. escape (take k (drop i d))) (sym n) ∙ run_plain (drop i d) ∙ ap (λ k. take k (drop i d)) n
 
--- ---- in a printable line only a quote ends the run
+-- ---- in a line without escapes only a quote ends the run
 
-byte_parts : (x : ℕ) → is_printable_byte x ≡ true → (32 ≤ x) × (x < 127) × ((x == 92) ≡ false)
-byte_parts x e =
-    let a = and_parts (nat_le 32 x && nat_lt x 127) _ e in
-    let b = and_parts (nat_le 32 x) _ a.0 in
-    (leb-true 32 x b.0, ltb-true x 127 b.1, not-true _ a.1)
-
-same_stop : (x : ℕ) → is_printable_byte x ≡ true → is_no_quote x ≡ is_plain x
-same_stop x e = let p = byte_parts x e in rw (p.2, le-ltb x 32 p.0) (at (x == 34))
+same_stop : (x : ℕ) → is_unescaped_byte x ≡ true → is_no_quote x ≡ is_plain x
+same_stop x e =
+    let p = and_parts (nat_le 32 x) _ e in
+    rw (not-true _ p.1, le-ltb x 32 (leb-true 32 x p.0)) (at (x == 34))
   where
     at : (b : Bool) → not b ≡ not ((b || false) || false)
     at true = refl
     at false = refl
 
-same_run : (xs : List ℕ) → is_printable xs ≡ true → prefix_len is_no_quote xs ≡ prefix_len is_plain xs
+same_run : (xs : List ℕ) → is_unescaped (take (prefix_len is_no_quote xs) xs) ≡ true → prefix_len is_no_quote xs ≡ prefix_len is_plain xs
 same_run [] e = refl
-same_run (x ∷ xs) e =
-    let p = and_parts (is_printable_byte x) _ e in
-    (λ i. cond (same_stop x p.0 i) (1 + same_run xs p.1 i) 0)
+same_run (x ∷ xs) e = at (x == 34) refl (same_run xs) e
+  where
+    at : (quote : Bool) → (x == 34) ≡ quote
+        → (is_unescaped (take (prefix_len is_no_quote xs) xs) ≡ true → prefix_len is_no_quote xs ≡ prefix_len is_plain xs)
+        → is_unescaped (take (cond (not quote) (1 + prefix_len is_no_quote xs) 0) (x ∷ xs)) ≡ true
+        → cond (not quote) (1 + prefix_len is_no_quote xs) 0 ≡ prefix_len is_plain (x ∷ xs)
+    at true is later e =
+        let stop : is_plain x ≡ false = ap (λ b. not ((b || (x == 92)) || nat_lt x 32)) is in
+        ap (λ b. cond b (1 + prefix_len is_plain xs) 0) (sym stop)
+    at false is later e =
+        let next : suc (prefix_len is_no_quote xs) ≡ 1 + prefix_len is_no_quote xs = omega arith in
+        let bytes : (is_unescaped_byte x && is_unescaped (take (prefix_len is_no_quote xs) xs)) ≡ true = ap (λ k. is_unescaped (take k (x ∷ xs))) next ∙ e in
+        let parts = and_parts (is_unescaped_byte x) _ bytes in
+        let plain : true ≡ is_plain x = sym (ap not is) ∙ same_stop x parts.0 in
+        (λ i. cond (plain i) (1 + later parts.1 i) 0)
 
-printable_rest : (xs : List ℕ) (n : ℕ) → is_printable xs ≡ true → is_printable (drop n xs) ≡ true
-printable_rest xs zero e = e
-printable_rest [] (suc n) e = refl
-printable_rest (x ∷ xs) (suc n) e = printable_rest xs n (and_parts (is_printable_byte x) _ e).1
+-- The bytes of a text in quotes are none of the line's last one.
+within_line : (d : List ℕ) (i n : ℕ) → is_unescaped_line d ≡ true → i + n < length d → is_unescaped (take n (drop i d)) ≡ true
+within_line d i n unescaped less =
+    let last = length d - 1 in
+    let all : i + (last - i) ≡ last = omega (arith, less) in
+    let same : take (last - i) (drop i d) ≡ drop i (take last d) = sym (drop-take i (last - i) d) ∙ ap (λ k. drop i (take k d)) all in
+    let rest = ap is_unescaped same ∙ (halves is_unescaped_byte (take last d) i unescaped).1 in
+    ap is_unescaped (sym (take-take n (last - i) (drop i d) (omega (arith, less)))) ∙ (halves is_unescaped_byte (take (last - i) (drop i d)) n rest).0
 
-pub quoted_text : (d : List ℕ) (i stop : ℕ) → is_printable d ≡ true → stop ≡ i + prefix_len is_no_quote (drop i d) → escape (take (stop - i) (drop i d)) ≡ take (stop - i) (drop i d)
-quoted_text d i stop printable is = plain_text d i stop (is ∙ ap (λ n. i + n) (same_run (drop i d) (printable_rest d i printable)))
+pub quoted_text : (d : List ℕ) (i stop : ℕ) → is_unescaped_line d ≡ true → stop < length d → stop ≡ i + prefix_len is_no_quote (drop i d)
+    → escape (take (stop - i) (drop i d)) ≡ take (stop - i) (drop i d)
+quoted_text d i stop unescaped within is =
+    let bytes = within_line d i (prefix_len is_no_quote (drop i d)) unescaped (omega (arith, within, is)) in
+    plain_text d i stop (is ∙ ap (λ n. i + n) (same_run (drop i d) bytes))
 
 -- ---- the two quotes
 

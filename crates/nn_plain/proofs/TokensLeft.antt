@@ -1,6 +1,6 @@
 -- The tokens of the rest of a line, by its first bytes. After each token blanks may stand.
 use Rattle.std.proofs.Common.{◌≡◌, ◌⊎◌, ℕ, ◌+◌, List, [], ◌∷◌, ◌++◌, length, drop, get_or, Bool, true, false, refl, sym, ap, ◌∙◌, inl, inr, arith, ◌<◌, lt_of_not-le}
-use Rattle.std.proofs.lemmas.List.{get_or_past}
+use Rattle.std.proofs.lemmas.List.{drop_all, get_or_past}
 use Rattle.json.specs.Token.{key, begin_object, end_object, begin_array, end_array}
 use Rattle.json.specs.Lex.{colon, begins_colon, between, lex, fresh, after_value, after_comma, punctuate}
 use Rattle.json.specs.Print.{escape}
@@ -13,6 +13,11 @@ pub none_left : (b : Bool) → tokens_left b [] ≡ []
 unfolding lex punctuate
 none_left true = refl
 none_left false = refl
+
+return_here : (b : Bool) → tokens_left b (13 ∷ []) ≡ []
+unfolding lex punctuate
+return_here true = refl
+return_here false = refl
 
 close_here : (b : Bool) (r : List ℕ) → tokens_left b (125 ∷ r) ≡ end_object ∷ punctuate after_value (lex between r)
 unfolding lex punctuate
@@ -46,6 +51,10 @@ ends_value d end next skips first stop = record {
 -- ---- at a place of the line
 
 module _ (b : Bool) (d : List ℕ) (at : ℕ) where
+  pub return_left : at + 1 ≡ length d → get_or d at 0 ≡ 13 → tokens_left b (drop at d) ≡ []
+  return_left last e =
+      ap (tokens_left b) (byte_there d at 13 (omega arith) e ∙ ap (λ t. 13 ∷ t) (drop_all (at + 1) d (omega (arith, last)))) ∙ return_here b
+
   pub close_left : (next : ℕ) → get_or d at 0 ≡ 125 → Skips d (at + 1) next → tokens_left b (drop at d) ≡ end_object ∷ tokens_left false (drop next d)
   close_left next e skips =
       ap (tokens_left b) (byte_there d at 125 (omega arith) e) ∙ close_here b (drop (at + 1) d) ∙ ap (λ ls. end_object ∷ punctuate after_value ls) skips

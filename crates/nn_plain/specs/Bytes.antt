@@ -34,7 +34,7 @@ pub record EndsValue (text : List ℕ) (end next : ℕ) : Type 0 where
 
 -- ---- texts
 
--- A text in quotes in a printable line has no escape, and ends at the next one.
+-- A text in quotes in a line without escapes has none, and ends at the next one.
 abbrev pub is_no_quote : ℕ → Bool
 is_no_quote b = not (b == 34)
 

@@ -4,7 +4,7 @@ use Rattle.serde_json.specs.Data.{null, boolean, number, string, array, object, 
 use Rattle.nn_plain.specs.Ahead.{with_last_item, IsArrayIf, IsObjectIf}
 use Rattle.nn_plain.specs.Keys.{first_named}
 use Rattle.std.specs.Simd.Lanes.{number_l}
-use Rattle.nn_bytes.specs.Runs.{is_printable_byte}
+use Rattle.nn_bytes.specs.Runs.{is_printable_byte, is_unescaped_byte}
 use Rattle.nn_plain.specs.Spelling.{plain_of}
 use Rattle.nn_plain.specs.Words.{high_word, value_of_pairs}
 
@@ -34,7 +34,11 @@ first = refl
 no_key : first_named (λ k. k) (codes "c") (codes "a" ∷ codes "b" ∷ []) ≡ None
 no_key = refl
 
--- blanks and quotes are printable, and no backslash and no control character
+-- blanks and quotes need no escape, and no byte of another character; a backslash and a control character do
+unescaped : map is_unescaped_byte (31 ∷ 32 ∷ 34 ∷ 91 ∷ 92 ∷ 93 ∷ 127 ∷ 128 ∷ 255 ∷ []) ≡ false ∷ true ∷ true ∷ true ∷ false ∷ true ∷ true ∷ true ∷ true ∷ []
+unescaped = refl
+
+-- and of these the ASCII ones without control characters are printable
 printable : map is_printable_byte (31 ∷ 32 ∷ 34 ∷ 91 ∷ 92 ∷ 93 ∷ 126 ∷ 127 ∷ []) ≡ false ∷ true ∷ true ∷ true ∷ false ∷ true ∷ true ∷ false ∷ []
 printable = refl
 

@@ -1,14 +1,14 @@
 //! Lines of JSON, read a member at a time: those in the plain spelling, as nearly all are, and all others.
 //!
-//! A plain line is one object, and no other byte stands before it. Its values are texts of printable ASCII without escapes,
-//! numbers of digits alone, `true` and `false`, and arrays of blocks: objects of these texts, numbers and truth values. Keys
-//! may come in any order, may be repeated, and there may be others. Blanks may stand after each token, but no tab and no
-//! carriage return.
+//! A plain line is one object of UTF-8, and no other byte stands before it. Its values are texts without escapes, numbers of
+//! digits alone, `true` and `false`, and arrays of blocks: objects of these texts, numbers and truth values. Keys may come in
+//! any order, may be repeated, and there may be others. Blanks may stand after each token, and a carriage return at the end, but
+//! no tab.
 //!
-//! `read_plain` needs no index, and looks at each byte few times. Printable bytes are UTF-8, so nobody asks that of a plain
-//! line. It says yes or no, and a no says nothing of the line: the caller then begins anew with `read_line`, which reads all of
-//! JSON, and that one decides. So each fault is told there. `read_value` hands it plain values, and passes over all others: no
-//! tree of values is made.
+//! `read_plain` needs no index, and looks at each byte few times. Whether bytes are UTF-8 is asked only where some are not
+//! printable ASCII. It says yes or no, and a no says nothing of the line: the caller then begins anew with `read_line`, which
+//! reads all of JSON, and that one decides. So each fault is told there. `read_value` hands it plain values, and passes over all
+//! others: no tree of values is made.
 #![tactic(auto)]
 
 mod any;

@@ -3,13 +3,13 @@ ghost use Rattle.std.specs.Prelude.{◌≡◌, length, Some, IsTrue, true};
 ghost use Rattle.std.specs.Str.{IsUtf8};
 ghost use Rattle.serde_json.specs.Data.{Members, object, no_members};
 ghost use Rattle.serde_json.specs.Read.{read};
-ghost use Rattle.nn_bytes.specs.Runs.{is_printable};
+ghost use Rattle.nn_bytes.specs.Runs.{is_unescaped_line};
 ghost use Rattle.nn_plain.specs.Ahead.{members_at};
 
 use crate::blocks::{plain_blocks, plain_scalar};
 use crate::tokens::Tokens;
 use crate::value::Slots;
-use nn_bytes::printable_text;
+use nn_bytes::unescaped_text;
 use std::alloc::Global;
 
 /// Whether the bytes are a plain line. Then the slots have its members.
@@ -22,16 +22,16 @@ pub fn read_plain<'a, S: Slots<'a>>(alloc: Global, line: &'a [u8], slots: &mut S
     ensures read { IsTrue result → (ms : Members) × (read line.now ≡ Some (object ms)) × S.seen slots.new ms }
     ensures text { IsTrue result → IsUtf8 line.now }
 {
-    let Some(text) = printable_text(line) else {
+    let Some(text) = unescaped_text(line) else {
         return false;
     };
-    read_printable(alloc, text, slots)
+    read_unescaped(alloc, text, slots)
 }
 
-// The same of a text that is known to be printable.
+// Whether a text without escapes is a plain line.
 #[inline(always)]
-fn read_printable<'a, S: Slots<'a>>(alloc: Global, line: &'a str, slots: &mut S) -> bool
-    requires printable { is_printable line.now ≡ true }
+fn read_unescaped<'a, S: Slots<'a>>(alloc: Global, line: &'a str, slots: &mut S) -> bool
+    requires unescaped { is_unescaped_line line.now ≡ true }
     requires none { S.seen slots.old no_members }
     ensures { IsTrue result → (ms : Members) × (read line.now ≡ Some (object ms)) × S.seen slots.new ms }
 {

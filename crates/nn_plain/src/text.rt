@@ -2,7 +2,7 @@
 ghost use Rattle.std.specs.Prelude.{◌≡◌, ◌+◌, ◌<◌, ◌≤◌, ◌∷◌, ◌++◌, length, drop, get_or, true, IfSome};
 ghost use Rattle.std.specs.List.{prefix_len};
 ghost use Rattle.json.specs.Print.{escape};
-ghost use Rattle.nn_bytes.specs.Runs.{is_printable};
+ghost use Rattle.nn_bytes.specs.Runs.{is_unescaped_line};
 ghost use Rattle.nn_plain.specs.Bytes.{is_no_quote};
 
 use nn_bytes::run_before;
@@ -11,7 +11,7 @@ use nn_bytes::run_before;
 #[inline(always)]
 pub(crate) fn quoted_at(text: &str, from: usize) -> Option<(&str, usize)>
     requires bound { from ≤ length text.now }
-    requires printable { is_printable text.now ≡ true }
+    requires unescaped { is_unescaped_line text.now ≡ true }
     ensures here { IfSome result (λ r. drop from text.now ≡ 34 ∷ (r.0.now ++ 34 ∷ drop r.1 text.now)) }
     ensures plain { IfSome result (λ r. escape r.0.now ≡ r.0.now) }
     ensures bound { IfSome result (λ r. (from < r.1) × (r.1 ≤ length text.now)) }

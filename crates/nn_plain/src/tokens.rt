@@ -6,7 +6,7 @@ ghost use Rattle.json.specs.Json.{read_key};
 ghost use Rattle.json.specs.Token.{string, number, boolean, begin_object, begin_array, end_array};
 ghost use Rattle.json.specs.Lex.{tokens};
 ghost use Rattle.nn_plain.specs.Bytes.{AtStop, NextBegins, EndsValue, Skips};
-ghost use Rattle.nn_bytes.specs.Runs.{is_printable};
+ghost use Rattle.nn_bytes.specs.Runs.{is_unescaped_line};
 ghost use Rattle.nn_plain.specs.Words.{Begins};
 
 use crate::number::number_at;
@@ -36,7 +36,7 @@ pub(crate) struct Key<'a> {
 impl<'a> Model for Tokens<'a> {
     ghost use Rattle.std.specs.Prelude.{◌≡◌, List, ◌≤◌, length, drop, true};
     ghost use Rattle.json.specs.Token.{Token, tokens_code};
-    ghost use Rattle.nn_bytes.specs.Runs.{is_printable};
+    ghost use Rattle.nn_bytes.specs.Runs.{is_unescaped_line};
     ghost use Rattle.nn_plain.specs.Bytes.{tokens_left};
 
     ghost Value = { List Token };
@@ -45,14 +45,14 @@ impl<'a> Model for Tokens<'a> {
 
     ghost view = { λ r. tokens_left r.fresh (drop r.at r.text.now) };
 
-    ghost invariant = { λ r. (r.at ≤ length r.text.now) × (is_printable r.text.now ≡ true) };
+    ghost invariant = { λ r. (r.at ≤ length r.text.now) × (is_unescaped_line r.text.now ≡ true) };
 }
 
 impl<'a> Tokens<'a> {
     /// The tokens of a line, after the brace that opens its object.
     #[inline(always)]
     pub(crate) fn of_object(text: &'a str) -> Option<Tokens<'a>>
-        requires { is_printable text.now ≡ true }
+        requires { is_unescaped_line text.now ≡ true }
         ensures { IfSome result (λ t. tokens text.now ≡ begin_object ∷ t) }
     {
         if byte_at(text, 0) != b'{' {
@@ -182,12 +182,17 @@ impl<'a> Tokens<'a> {
         Some(true)
     }
 
-    /// Whether nothing comes any more.
+    /// Whether nothing comes any more, but for a carriage return at the line's end.
     #[inline(always)]
     pub(crate) fn is_over(&self) -> bool
         ensures { IsTrue result → self.now ≡ [] }
     {
-        self.at == self.text.len()
+        let text = self.text;
+        let at = self.at;
+        if at == text.len() {
+            return true;
+        }
+        text.len() - at == 1 && byte_at(text, at) == b'\r'
     }
 }
 

@@ -27,4 +27,5 @@ returns-clause-plain c =
     let from = c.args.from in
     let stop = c.in_ok-stop.stop in
     let run : stop ≡ from + 1 + prefix_len is_no_quote (drop (from + 1) d) = rw (← c.as_bytes.ensures.value) c.in_ok-stop.ensures.plain in
-    rw (c.range.ensures.value) (quoted_text d (from + 1) stop c.requires.printable run)
+    let within : stop < length d = rw (← c.as_bytes.ensures.value) c.in_ok-stop.ensures.bound.1 in
+    rw (c.range.ensures.value) (quoted_text d (from + 1) stop c.requires.unescaped within run)

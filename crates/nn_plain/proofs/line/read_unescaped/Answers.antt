@@ -1,6 +1,6 @@
 use Rattle.std.proofs.Common.{Some, refl, ap, ◌∙◌}
 use Rattle.nn_plain.proofs.Lines.{object_line}
-use Rattle.nn_plain.proofs.line.read_printable.Goals as goal
+use Rattle.nn_plain.proofs.line.read_unescaped.Goals as goal
 
 pub returns : goal.returns
 returns g c = λ over.

@@ -2,9 +2,10 @@
 //! nothing in it is escaped; and where a line ends, and whether it is blank.
 #![tactic(auto)]
 
-ghost use Rattle.std.specs.Prelude.{◌≡◌, ◌+◌, ◌≤◌, ◌==◌, length, take, drop, cond, not};
+ghost use Rattle.std.specs.Prelude.{◌≡◌, ◌+◌, ◌<◌, ◌≤◌, ◌==◌, length, take, drop, map, cond, not};
 ghost use Rattle.std.specs.Int.Count.{count_trailing_zeros};
 ghost use Rattle.std.specs.List.{prefix_len};
+ghost use Rattle.std.specs.Simd.Lanes.{mask_l};
 ghost use Rattle.nn_bytes.specs.Runs.{is_other, is_neither};
 
 mod digits;
@@ -49,6 +50,55 @@ pub fn run_before_either(text: &[u8], a: u8, b: u8) -> usize
         i += 1;
     }
     i
+}
+
+/// Where the first `byte` from `from` on stands. It is the length where there is none.
+///
+/// The last bytes are looked at in the block that ends with the text: only a text of less than 16 bytes is looked at byte by
+/// byte.
+#[inline(always)]
+pub fn find_from(text: &[u8], from: usize, byte: u8) -> usize
+    requires { from ≤ length text.now }
+    ensures run { result ≡ from + prefix_len (is_other byte) (drop from text.now) }
+    ensures bound { result ≤ length text.now }
+{
+    let mut i = from;
+    'blocks: while text.len() - i >= 16 {
+        let run = run_in_16(text, i, byte);
+        if run < 16 {
+            return i + run;
+        }
+        i += 16;
+    }
+    find_in_last(text, i, byte)
+}
+
+// The same of less than 16 bytes: those of the text's last block before them are shifted out.
+#[inline(always)]
+fn find_in_last(text: &[u8], from: usize, byte: u8) -> usize
+    requires bound { from ≤ length text.now }
+    requires short { length text.now < from + 16 }
+    ensures run { result ≡ from + prefix_len (is_other byte) (drop from text.now) }
+    ensures bound { result ≤ length text.now }
+{
+    if text.len() < 16 {
+        return from + run_before(&text[from..], byte);
+    }
+    let last = text.len() - 16;
+    let found = equal_bits(block_at(text, last), byte) >> (from - last);
+    if found == 0 {
+        return text.len();
+    }
+    from + found.trailing_zeros() as usize
+}
+
+// The bytes of a block that are this one, a bit for each.
+#[inline(always)]
+fn equal_bits(block: u8x16, byte: u8) -> u64
+    requires { length block ≡ 16 }
+    ensures { result ≡ mask_l (map (λ x. x == byte) block) }
+{
+    block.simd_eq(u8x16::splat(byte)).to_bitmask()
 }
 
 /// How many of the 16 bytes from `from` on stand before the first `byte`.

@@ -1,7 +1,8 @@
 -- A text in quotes in a line without escapes: its bytes are its content.
 use Rattle.std.proofs.Common.{◌≡◌, ℕ, suc, ◌+◌, ◌-◌, ◌<◌, length, get_or, List, [], ◌∷◌, ◌++◌, take, drop, Bool, true, false, cond, not, nat_le, nat_lt, ◌&&◌, ◌||◌, ◌==◌, le-ltb, leb-true, refl, sym, ap, ◌∙◌, arith}
-use Rattle.std.proofs.lemmas.Bool.{and_parts, or_parts, not-true, eqb-false, ltb-false}
-use Rattle.std.proofs.lemmas.List.{drop-take, take-take}
+use Rattle.std.proofs.lemmas.Bool.{and_parts, or_parts, not-false, not-true, eqb-false, eqb-true, ltb-false}
+use Rattle.std.proofs.lemmas.List.{drop-take, get_or-drop, length-drop, take-take}
+use Rattle.std.proofs.lemmas.List.Sums.{prefix_len_stops}
 use Rattle.std.specs.List.{prefix_len}
 use Rattle.std.specs.Str.{IsUtf8, IsCharBoundary}
 use Rattle.std.proofs.lemmas.Str.{IsCharBoundary-after_ascii}
@@ -83,6 +84,12 @@ quoted_text d i stop unescaped within is =
     plain_text d i stop (is ∙ ap (λ n. i + n) (same_run (drop i d) bytes))
 
 -- ---- the two quotes
+
+pub quote_there : (d : List ℕ) (i stop : ℕ) → stop ≡ i + prefix_len is_no_quote (drop i d) → stop < length d → get_or d stop 0 ≡ 34
+quote_there d i stop is within =
+    let run = prefix_len is_no_quote (drop i d) in
+    let stops = prefix_len_stops is_no_quote (drop i d) 0 (omega (arith, length-drop i d, is, within)) in
+    ap (λ n. get_or d n 0) is ∙ sym (get_or-drop i d run 0) ∙ eqb-true _ 34 (not-false _ stops)
 
 pub between_quotes : (d : List ℕ) (from stop : ℕ) → get_or d from 0 ≡ 34 → get_or d stop 0 ≡ 34 → from < stop → drop from d ≡ 34 ∷ (take (stop - (from + 1)) (drop (from + 1) d) ++ 34 ∷ drop (stop + 1) d)
 between_quotes d from stop first last less =

@@ -10,8 +10,10 @@ use nn_bytes::digit_run;
 use std::simd::prelude::*;
 
 /// How many digits a block begins with, and what they write. Where all 16 bytes are digits the number is no answer.
+///
+/// `S` is whom they are read for: each has a copy of the code.
 #[inline(always)]
-pub(crate) fn digits_in_block(block: u8x16) -> (usize, u64)
+pub(crate) fn digits_in_block<S>(block: u8x16) -> (usize, u64)
     requires { length block ≡ 16 }
     ensures run { result.0 ≡ prefix_len is_ascii_digit block }
     ensures value { result.0 < 16 → result.1 ≡ digits_value 10 (take result.0 block) }

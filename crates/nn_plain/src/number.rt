@@ -45,7 +45,7 @@ fn digits_from<S>(text: &[u8], from: usize) -> (usize, u64)
     ensures small { result.1 < 10_000_000_000_000_000_000 }
 {
     if text.len() - from >= 16 {
-        let (count, n) = digits_in_block(block_at(text, from));
+        let (count, n) = digits_in_block::<S>(block_at(text, from));
         if count < 16 {
             return (from + count, n);
         }

@@ -5,7 +5,7 @@ ghost use Rattle.json.specs.Print.{escape};
 ghost use Rattle.nn_bytes.specs.Runs.{is_unescaped_line};
 ghost use Rattle.nn_plain.specs.Bytes.{is_no_quote};
 
-use nn_bytes::run_before;
+use nn_bytes::find_from;
 
 /// The text in quotes whose first quote stands at `from`, and where its last one ends.
 #[inline(always)]
@@ -32,7 +32,7 @@ fn closing_quote(text: &[u8], from: usize) -> Option<usize>
         return None;
     }
     let stop = quote_end(text, from + 1);
-    if stop >= text.len() || text[stop] != b'"' {
+    if stop >= text.len() {
         return None;
     }
     Some(stop)
@@ -45,5 +45,5 @@ fn quote_end(text: &[u8], from: usize) -> usize
     ensures value { result ≡ from + prefix_len is_no_quote (drop from text.now) }
     ensures bound { result ≤ length text.now }
 {
-    from + run_before(&text[from..], b'"')
+    find_from(text, from, b'"')
 }

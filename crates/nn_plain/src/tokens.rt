@@ -1,5 +1,5 @@
 //! The tokens of a plain line, found as they are read.
-ghost use Rattle.std.specs.Prelude.{◌≡◌, ◌⊎◌, ◌∷◌, ◌≤◌, length, drop, get_or, Some, option_map, if◌then◌else◌, IfSome, IsTrue, true, [], List, ℕ};
+ghost use Rattle.std.specs.Prelude.{◌≡◌, ◌⊎◌, ◌∷◌, ◌<◌, ◌≤◌, length, drop, get_or, Some, option_map, if◌then◌else◌, IfSome, IsTrue, true, [], List, ℕ};
 ghost use Rattle.serde_json.specs.Data.{unsigned};
 ghost use Rattle.serde_json.specs.Read.{number_of};
 ghost use Rattle.json.specs.Json.{read_key};
@@ -82,10 +82,7 @@ impl<'a> Tokens<'a> {
         }
         let start = start_at(text, at, self.fresh)?;
         let (key, end) = quoted_at(text, start)?;
-        let colon = after_blanks(text, end);
-        if byte_at(text, colon) != b':' {
-            return None;
-        }
+        let colon = colon_at(text, end)?;
         let word = word_at(text.as_bytes(), start + 1, key);
         self.at = after_blanks(text, colon + 1);
         self.fresh = true;
@@ -221,6 +218,24 @@ fn start_at(text: &str, at: usize, first: bool) -> Option<usize>
     Some(after_blanks(text, at + 1))
 }
 
+// Where the colon stands after a key. Nearly always it stands at once.
+#[inline(always)]
+fn colon_at(text: &str, end: usize) -> Option<usize>
+    requires { end ≤ length text.now }
+    ensures skips { IfSome result (λ colon. Skips text.now end colon) }
+    ensures there { IfSome result (λ colon. get_or text.now colon 0 ≡ 58) }
+    ensures bound { IfSome result (λ colon. colon < length text.now) }
+{
+    if byte_at(text, end) == b':' {
+        return Some(end);
+    }
+    let colon = after_blanks(text, end);
+    if byte_at(text, colon) != b':' {
+        return None;
+    }
+    Some(colon)
+}
+
 // Where the next token stands after a value. A comma or a bracket that closes has to stand there.
 #[inline(always)]
 fn value_end(text: &str, end: usize) -> Option<usize>
@@ -228,6 +243,9 @@ fn value_end(text: &str, end: usize) -> Option<usize>
     ensures ends { IfSome result (EndsValue text.now end) }
     ensures bound { IfSome result (λ next. next ≤ length text.now) }
 {
+    if stops_at(text, end) {
+        return Some(end);
+    }
     let next = after_blanks(text, end);
     if !stops_at(text, next) {
         return None;

@@ -20,7 +20,6 @@ returns-clause-read g c =
     let a = c.self.inside in
     let start = c.in_ok-start in
     let found = c.in_ok-key in
-    let colon = c.after_blanks-colon in
-    let there = sym c.byte_at-2.ensures.value ∙ c.if-byte_at-ne58.false in
-    let left = key_left a.fresh a.text.now a.at start.start found.end colon.result c.after_blanks-self-inside-2.result found.key.now start.ensures.begins found.ensures.plain found.ensures.here colon.ensures.skips there c.after_blanks-self-inside-2.ensures.skips in
+    let colon = c.in_ok-colon in
+    let left = key_left a.fresh a.text.now a.at start.start found.end colon.colon c.after_blanks-self-inside-2.result found.key.now start.ensures.begins found.ensures.plain found.ensures.here colon.ensures.skips colon.ensures.there c.after_blanks-self-inside-2.ensures.skips in
     ap read_key (sym c.self.view_is ∙ left)

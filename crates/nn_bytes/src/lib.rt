@@ -17,7 +17,7 @@ pub use digits::digit_run;
 pub use lines::{is_blank, line_end};
 pub use printable::{printable_is_utf8, printable_run};
 use std::simd::prelude::*;
-pub use unescaped::unescaped_text;
+pub use unescaped::{LineText, known_text, text_of};
 
 /// How many bytes stand before the first `byte`, or in all where there is none.
 ///

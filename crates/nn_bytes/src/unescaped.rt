@@ -1,50 +1,74 @@
 //! The bytes of a line as a text, where none of them is escaped. How far there are neither control characters nor backslashes is
 //! looked for in 16 bytes at a time.
-ghost use Rattle.std.specs.Prelude.{◌≡◌, ◌≤◌, ◌<◌, length, map, take, true, IfSome};
+ghost use Rattle.std.specs.Prelude.{◌≡◌, ◌≤◌, ◌<◌, length, map, take, true, IfSome, None};
 ghost use Rattle.std.specs.List.{prefix_len};
 ghost use Rattle.std.specs.Simd.Lanes.{mask_l};
 ghost use Rattle.std.specs.Str.{IsUtf8};
-ghost use Rattle.nn_bytes.specs.Runs.{is_printable, is_unescaped, is_unescaped_byte, is_unescaped_line, fails};
+ghost use Rattle.nn_bytes.specs.Runs.{is_printable, is_unescaped, is_unescaped_byte, fails};
+ghost use Rattle.nn_bytes.specs.Texts.{IsKnownOf};
 
 use crate::printable::printable_run;
 use crate::{block_at, first_set};
 use percent_encoding::ascii_str;
+use simdutf8::basic::from_utf8;
 use std::simd::prelude::*;
-use std::str::from_utf8;
 
-/// The bytes of a line as a text, if they are UTF-8 and none but the last is a control character or a backslash.
+/// What is known of a line's bytes as a text.
+#[derive(Clone, Copy, Debug, Drop)]
+pub enum LineText<'a> {
+    /// They are this text, and none but the last is a control character or a backslash.
+    Unescaped(&'a str),
+    /// They are no UTF-8.
+    NotUtf8,
+    /// Whether they are UTF-8 was not asked: one but the last is a control character or a backslash.
+    NotAsked,
+}
+
+/// Looks whether the bytes of a line are a text without escapes.
 ///
 /// Whether they are UTF-8 is asked only where some are not printable ASCII. A carriage return may be the last one without it.
-/// None says nothing of the bytes.
 #[inline(always)]
-pub fn unescaped_text(line: &[u8]) -> Option<&str>
-    ensures { IfSome result (λ text. (text.now ≡ line.now) × (is_unescaped_line text.now ≡ true) × IsUtf8 text.now) }
+pub fn known_text(line: &[u8]) -> LineText<'_>
+    ensures { IsKnownOf line.now result }
 {
     let run = printable_run(line);
     if run == line.len() {
-        return Some(ascii_str(line));
+        return LineText::Unescaped(ascii_str(line));
     }
     other_text(line, run)
 }
 
-// The same of a line whose first bytes are printable, up to one that is not.
+/// The bytes of a line as a text, if they are UTF-8. That is asked only where it is not known yet.
+pub fn text_of<'a>(line: &'a [u8], known: LineText<'a>) -> Option<&'a str>
+    requires { IsKnownOf line.now known }
+    ensures some { IfSome result (λ text. (text.now ≡ line.now) × IsUtf8 line.now) }
+    ensures none { result ≡ None → ¬ (IsUtf8 line.now) }
+{
+    match known {
+        LineText::Unescaped(text) => Some(text),
+        LineText::NotUtf8 => None,
+        LineText::NotAsked => from_utf8(line).ok(),
+    }
+}
+
+// What is known of a line whose first bytes are printable, up to one that is not.
 #[inline(never)]
-fn other_text(line: &[u8], run: usize) -> Option<&str>
+fn other_text(line: &[u8], run: usize) -> LineText<'_>
     requires bound { run < length line.now }
     requires printable { is_printable (take run line.now) ≡ true }
-    ensures { IfSome result (λ text. (text.now ≡ line.now) × (is_unescaped_line text.now ≡ true) × IsUtf8 text.now) }
+    ensures { IsKnownOf line.now result }
 {
     let last = line.len() - 1;
     if run == last && line[last] == b'\r' {
-        return Some(ascii_str(line));
+        return LineText::Unescaped(ascii_str(line));
     }
     if !is_unescaped(&line[run..last]) {
-        return None;
+        return LineText::NotAsked;
     }
     let Ok(text) = from_utf8(line) else {
-        return None;
+        return LineText::NotUtf8;
     };
-    Some(text)
+    LineText::Unescaped(text)
 }
 
 // Whether no byte is a control character or a backslash. So quotes aside, JSON writes the bytes as they are.

@@ -16,10 +16,10 @@ use crate::keys::TextKey;
 use crate::reading::tx_in;
 use crate::report::report_in;
 use json::Scratch;
+use nn_bytes::{LineText, known_text, text_of};
 use nn_plain::read_plain;
 use nn_types::limits::MAX_LINE_LEN;
 use nn_types::{Report, Tx};
-use simdutf8::basic::from_utf8;
 use std::alloc::Global;
 
 /// A line of an input that has both transactions and reports.
@@ -123,10 +123,13 @@ fn fields_in<'a>(
     if line.len() > MAX_LINE_LEN {
         return Err(LineFault::LineTooLong);
     }
-    if read_plain(alloc, line, fields) {
-        return Ok(());
+    let known = known_text(line);
+    if let LineText::Unescaped(text) = known {
+        if read_plain(alloc, text, fields) {
+            return Ok(());
+        }
     }
-    let Ok(text) = from_utf8(line) else {
+    let Some(text) = text_of(line, known) else {
         return Err(LineFault::NotJson);
     };
     *fields = Fields::none();

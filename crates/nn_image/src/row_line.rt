@@ -6,10 +6,10 @@ ghost use Rattle.nn_image.specs.Reading.{is_end_line};
 
 use crate::row_members::RowMembers;
 use json::Scratch;
+use nn_bytes::{LineText, known_text, text_of};
 use nn_model::Form;
 use nn_plain::{ReadFault, read_line, read_plain};
 use nn_types::Path;
-use simdutf8::basic::from_utf8;
 use std::alloc::{AllocError, Global};
 
 /// A line behind the header.
@@ -38,11 +38,14 @@ pub(crate) fn row_line(alloc: Global, line: &[u8]) -> Result<RowLine, AllocError
     ensures end { IfOk result (λ r. is_end_row r ≡ is_end_line line.now) }
     ensures limit { IfOk result HasLimit }
 {
+    let known = known_text(line);
     let mut members = RowMembers::none();
-    if read_plain(alloc, line, &mut members) {
-        return members.line(alloc);
+    if let LineText::Unescaped(text) = known {
+        if read_plain(alloc, text, &mut members) {
+            return members.line(alloc);
+        }
     }
-    let Ok(text) = from_utf8(line) else {
+    let Some(text) = text_of(line, known) else {
         return Ok(RowLine::Bad);
     };
     row_line_of_json(alloc, text)

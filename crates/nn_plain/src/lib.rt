@@ -5,10 +5,10 @@
 //! any order, may be repeated, and there may be others. Blanks may stand after each token, and a carriage return at the end, but
 //! no tab.
 //!
-//! `read_plain` needs no index, and looks at each byte few times. Whether bytes are UTF-8 is asked only where some are not
-//! printable ASCII. It says yes or no, and a no says nothing of the line: the caller then begins anew with `read_line`, which
-//! reads all of JSON, and that one decides. So each fault is told there. `read_value` hands it plain values, and passes over all
-//! others: no tree of values is made.
+//! `read_plain` takes a line's text where nothing in it is escaped, as `nn_bytes::known_text` gives it. It needs no index, and
+//! looks at each byte few times. It says yes or no, and a no says nothing of the line: the caller then begins anew with
+//! `read_line`, which reads all of JSON, and that one decides. So each fault is told there. `read_value` hands it plain values,
+//! and passes over all others: no tree of values is made.
 #![tactic(auto)]
 
 mod any;

@@ -1,6 +1,5 @@
 //! The object that a plain line is, read member by member.
 ghost use Rattle.std.specs.Prelude.{◌≡◌, length, Some, IsTrue, true};
-ghost use Rattle.std.specs.Str.{IsUtf8};
 ghost use Rattle.serde_json.specs.Data.{Members, object, no_members};
 ghost use Rattle.serde_json.specs.Read.{read};
 ghost use Rattle.nn_bytes.specs.Runs.{is_unescaped_line};
@@ -9,28 +8,14 @@ ghost use Rattle.nn_plain.specs.Ahead.{members_at};
 use crate::blocks::{plain_blocks, plain_scalar};
 use crate::tokens::Tokens;
 use crate::value::Slots;
-use nn_bytes::unescaped_text;
 use std::alloc::Global;
 
-/// Whether the bytes are a plain line. Then the slots have its members.
+/// Whether a text without escapes is a plain line. Then the slots have its members.
 ///
-/// Where they are not, the slots have any members, and are to be made anew. A line whose blocks find no memory is none
+/// Where it is not, the slots have any members, and are to be made anew. A line whose blocks find no memory is none
 /// either.
 #[inline(always)]
-pub fn read_plain<'a, S: Slots<'a>>(alloc: Global, line: &'a [u8], slots: &mut S) -> bool
-    requires { S.seen slots.old no_members }
-    ensures read { IsTrue result → (ms : Members) × (read line.now ≡ Some (object ms)) × S.seen slots.new ms }
-    ensures text { IsTrue result → IsUtf8 line.now }
-{
-    let Some(text) = unescaped_text(line) else {
-        return false;
-    };
-    read_unescaped(alloc, text, slots)
-}
-
-// Whether a text without escapes is a plain line.
-#[inline(always)]
-fn read_unescaped<'a, S: Slots<'a>>(alloc: Global, line: &'a str, slots: &mut S) -> bool
+pub fn read_plain<'a, S: Slots<'a>>(alloc: Global, line: &'a str, slots: &mut S) -> bool
     requires unescaped { is_unescaped_line line.now ≡ true }
     requires none { S.seen slots.old no_members }
     ensures { IsTrue result → (ms : Members) × (read line.now ≡ Some (object ms)) × S.seen slots.new ms }

@@ -1,4 +1,4 @@
-use Rattle.std.proofs.Common.{◌≡◌, get_or, true, sym, subst, ap, ◌∙◌, arith}
+use Rattle.std.proofs.Common.{◌≡◌, get_or, true, sym, ap, ◌∙◌, arith}
 use Rattle.std.specs.Str.{IsUtf8}
 use Rattle.std.proofs.lemmas.Str.{IsUtf8-from_ascii}
 use Rattle.nn_bytes.specs.Runs.{is_unescaped_line}
@@ -14,16 +14,14 @@ ascii_str-requires c =
 pub returns-then-line-last-eq13 : goal.returns-then-line-last-eq13
 returns-then-line-last-eq13 c =
     let line = c.args.line.now in
-    let same = sym c.ascii_str.ensures in
     let ascii = return_is_ascii line c.args.run (omega (arith, c.requires.bound, c.if-run-last.true)) c.requires.printable
     (ap (λ k. get_or line k 0) c.if-run-last.true ∙ c.if-line-last-eq13.true) in
     let unescaped = printable_line line c.args.run (omega (arith, c.if-run-last.true)) c.requires.printable in
-    (c.ascii_str.ensures, subst (λ t. is_unescaped_line t ≡ true) same unescaped, subst IsUtf8 same (IsUtf8-from_ascii line ascii))
+    (c.ascii_str.ensures, unescaped, IsUtf8-from_ascii line ascii)
 
 pub returns : goal.returns
 returns c =
     let line = c.args.line.now in
-    let text = c.in-Ok.ensures.cases in
+    let text = c.in-Ok.ensures in
     let inside = sym c.is_unescaped.ensures ∙ c.if-not-is_unescaped.false in
-    let unescaped = unescaped_behind line c.args.run (omega (arith, c.requires.bound)) c.requires.printable inside in
-    (text.0, subst (λ t. is_unescaped_line t ≡ true) (sym text.0) unescaped, subst IsUtf8 (sym text.0) text.1)
+    (text.0, unescaped_behind line c.args.run (omega (arith, c.requires.bound)) c.requires.printable inside, text.1)

@@ -1,12 +1,9 @@
-use Rattle.std.proofs.Common.{ap, sym, subst, ◌∙◌}
-use Rattle.std.specs.Str.{IsUtf8}
-use Rattle.serde_json.specs.Read.{read}
+use Rattle.std.proofs.Common.{Some, refl, ap, ◌∙◌}
+use Rattle.nn_plain.proofs.Lines.{object_line}
 use Rattle.nn_plain.proofs.line.read_plain.Goals as goal
 
-pub returns-clause-read : goal.returns-clause-read
-returns-clause-read g c = λ is.
-    let found = c.read_unescaped.ensures is in
-    (found.0, ap read (sym c.in-Some.ensures.0) ∙ found.1, found.2)
-
-pub returns-clause-text : goal.returns-clause-text
-returns-clause-text g c = λ is. subst IsUtf8 c.in-Some.ensures.0 c.in-Some.ensures.2
+pub returns : goal.returns
+returns g c = λ over.
+    let found = c.if-not-plain_members.ensures refl in
+    let value = object_line c.args.line.now c.in-Some.tokens found.0 c.in-Some.ensures (found.1 ∙ ap (λ r. Some (found.0, r)) (c.is_over.ensures over)) in
+    (found.0, value, found.2)

@@ -1,6 +1,7 @@
 //! From the bytes of a line to a transaction or a report.
 ghost use Rattle.std.specs.Prelude.{◌≡◌, Ok, IfOk};
 ghost use Rattle.serde_json.specs.Data.{object, no_members};
+ghost use Rattle.nn_bytes.specs.Runs.{IsPrintableTo};
 ghost use Rattle.nn_edits.specs.Grammar.{IsEditLine, IsReportLine, IsLine, IsLawfulReport, IsLawfulLine};
 ghost use Rattle.nn_types.specs.LawfulEdit.{IsLawfulEdit};
 ghost use Rattle.nn_edits.specs.Outcome.{LineGives, LineGivesSeen};
@@ -73,14 +74,34 @@ pub fn read_line(alloc: Global, scratch: &mut Scratch, line: &[u8]) -> Result<Li
     ensures exact { LineGives result (either_of_line line.now) }
     ensures lawful { IfOk result IsLawfulLine }
 {
-    either_of_line(alloc, scratch, line)
+    read_known_line(alloc, scratch, line, 0)
+}
+
+/// The same of a line whose first bytes, so many as `printable` says, are known to be printable ASCII without a backslash: they
+/// are not looked at for that once more.
+pub fn read_known_line(
+    alloc: Global,
+    scratch: &mut Scratch,
+    line: &[u8],
+    printable: usize,
+) -> Result<Line, LineFault>
+    requires { IsPrintableTo printable line.now }
+    // What is read is what the line spells.
+    ensures found { IfOk result (IsLine line.now) }
+    // What the line spells is read.
+    ensures only { (read : LineData) → IsLine line.now read → LineGives result (Ok read) }
+    // The fault is the first one in the order of the keys.
+    ensures exact { LineGives result (either_of_line line.now) }
+    ensures lawful { IfOk result IsLawfulLine }
+{
+    either_of_line(alloc, scratch, line, printable)
 }
 
 fn edit_of_line(alloc: Global, scratch: &mut Scratch, line: &[u8]) -> Result<Tx, LineFault>
     ensures { LineGives result (edit_of_line line.now) }
 {
     let mut fields = Fields::none();
-    fields_in(alloc, scratch, line, &mut fields)?;
+    fields_in(alloc, scratch, line, 0, &mut fields)?;
     tx_in(alloc, &mut fields)
 }
 
@@ -88,15 +109,21 @@ fn report_of_line(alloc: Global, scratch: &mut Scratch, line: &[u8]) -> Result<R
     ensures { LineGives result (report_of_line line.now) }
 {
     let mut fields = Fields::none();
-    fields_in(alloc, scratch, line, &mut fields)?;
+    fields_in(alloc, scratch, line, 0, &mut fields)?;
     report_in(&fields)
 }
 
-fn either_of_line(alloc: Global, scratch: &mut Scratch, line: &[u8]) -> Result<Line, LineFault>
+fn either_of_line(
+    alloc: Global,
+    scratch: &mut Scratch,
+    line: &[u8],
+    printable: usize,
+) -> Result<Line, LineFault>
+    requires { IsPrintableTo printable line.now }
     ensures { LineGives result (either_of_line line.now) }
 {
     let mut fields = Fields::none();
-    fields_in(alloc, scratch, line, &mut fields)?;
+    fields_in(alloc, scratch, line, printable, &mut fields)?;
     either_in(alloc, &mut fields)
 }
 
@@ -115,15 +142,17 @@ fn fields_in<'a>(
     alloc: Global,
     scratch: &'a mut Scratch,
     line: &'a [u8],
+    printable: usize,
     fields: &mut Fields<'a>,
 ) -> Result<(), LineFault>
-    requires { seen_fields fields.old ≡ parts_of (object no_members) }
+    requires printable { IsPrintableTo printable line.now }
+    requires none { seen_fields fields.old ≡ parts_of (object no_members) }
     ensures { LineGivesSeen (λ _. seen_fields fields.new) result (parts_of_line line.now) }
 {
     if line.len() > MAX_LINE_LEN {
         return Err(LineFault::LineTooLong);
     }
-    let known = known_text(line);
+    let known = known_text(line, printable);
     if let LineText::Unescaped(text) = known {
         if read_plain(alloc, text, fields) {
             return Ok(());

@@ -59,7 +59,7 @@ pub fn read_lines(alloc: Global, input: &[u8]) -> Result<Scenario, ScenarioFault
     'lines: loop {
         let end = line_end(rest);
         let line = &rest[..end];
-        if let Err(bad) = reader.take(&mut reading, line, is_blank(line)) {
+        if let Err(bad) = reader.take(&mut reading, line, is_blank(line), 0) {
             return Err(bad);
         }
         if end == rest.len() {

@@ -4,6 +4,7 @@ ghost use Rattle.nn_device.specs.Page.{PutsPiece};
 ghost use Rattle.nn_edits.specs.Reading.{either_of_line};
 ghost use Rattle.nn_bytes.specs.Lines.{is_blank};
 ghost use Rattle.nn_bytes.specs.Pieces.{is_unbroken};
+ghost use Rattle.nn_bytes.specs.Runs.{IsPrintableTo};
 ghost use Rattle.nn_live.specs.Live.{ends, takes, takes_read, takes_torn};
 ghost use Rattle.nn_live.specs.Serving.{BreaksAtEnd, BreaksOff, HasRunOut, IsAtEnd, FollowsStep, RunsOutBehind, ServiceSteps};
 ghost use Rattle.nn_live.specs.Taking.{IsLong};
@@ -13,7 +14,7 @@ use crate::texts::put_fault;
 use crate::word::Word;
 use nn_bytes::is_blank;
 use nn_device::{Page, Writer};
-use nn_edits::{Line, LineFault, Scratch, read_line};
+use nn_edits::{Line, LineFault, Scratch, read_known_line};
 use nn_types::fault;
 use std::io::Write;
 
@@ -32,6 +33,26 @@ impl Service {
         ensures exhausted { IsErrOf result ServiceFault.Exhausted → HasRunOut self.old }
         ensures prefix { IfErr result (λ _. BreaksOff (λ asked s. takes asked text.now s) self.old (λ told. PutsPiece told page.old writer.old page.new writer.new)) }
     {
+        self.known_line(scratch, page, writer, text, 0)
+    }
+
+    /// The same of a line whose first bytes, so many as `printable` says, are known to be printable.
+    pub(crate) fn known_line<W: Write>(
+        &mut self,
+        scratch: &mut Scratch,
+        page: &mut Page,
+        writer: &mut Writer<W>,
+        text: &[u8],
+        printable: usize,
+    ) -> Result<(), ServiceFault>
+        requires whole { is_unbroken text.now ≡ true }
+        requires printable { IsPrintableTo printable text.now }
+        ensures ok { OnOk result (ServiceSteps (λ asked s. takes asked text.now s) self.old self.new
+            (λ told. PutsPiece told page.old writer.old page.new writer.new)) }
+        ensures exhausted { IsErrOf result ServiceFault.Exhausted → HasRunOut self.old }
+        ensures prefix { IfErr result (λ _. BreaksOff (λ asked s. takes asked text.now s) self.old
+            (λ told. PutsPiece told page.old writer.old page.new writer.new)) }
+    {
         self.next_line()?;
         if is_blank(text) {
             return Ok(());
@@ -41,7 +62,7 @@ impl Service {
         };
         match word {
             Some(word) => self.answer(page, writer, &word),
-            None => self.data(scratch, page, writer, text),
+            None => self.data(scratch, page, writer, text, printable),
         }
     }
 
@@ -128,7 +149,7 @@ impl Service {
             put_fault(page, writer, fault::NOT_JSON, " line ", self.lines);
             return Ok(());
         }
-        self.data(scratch, page, writer, text)
+        self.data(scratch, page, writer, text, 0)
     }
 
     // A line of data: an edit is put to those in hand, a report is handed, and it is told why a line is neither.
@@ -138,13 +159,15 @@ impl Service {
         page: &mut Page,
         writer: &mut Writer<W>,
         text: &[u8],
+        printable: usize,
     ) -> Result<(), ServiceFault>
-        requires { is_unbroken text.now ≡ true }
+        requires whole { is_unbroken text.now ≡ true }
+        requires printable { IsPrintableTo printable text.now }
         ensures ok { OnOk result (ServiceSteps (λ asked s. takes_read asked text.now (either_of_line text.now) s) self.old self.new (λ told. PutsPiece told page.old writer.old page.new writer.new)) }
         ensures exhausted { IsErrOf result ServiceFault.Exhausted → IsAtEnd self.old }
         ensures prefix { IfErr result (λ _. BreaksOff (λ asked s. takes_read asked text.now (either_of_line text.now) s) self.old (λ told. PutsPiece told page.old writer.old page.new writer.new)) }
     {
-        match read_line(self.alloc, scratch, text) {
+        match read_known_line(self.alloc, scratch, text, printable) {
             Ok(Line::Edit(tx)) => self.edit(page, writer, text, tx),
             Ok(Line::Report(report)) => self.report(page, writer, report),
             Err(fault) => {

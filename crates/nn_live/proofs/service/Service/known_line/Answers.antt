@@ -7,7 +7,7 @@ use Rattle.nn_live.proofs.BrokenLines.{word_breaks, data_breaks}
 use Rattle.nn_live.proofs.Growing.{line_grows}
 use Rattle.nn_live.proofs.Places.{on_err}
 use Rattle.nn_live.proofs.Reading.{blank_line, word_line, data_line}
-use Rattle.nn_live.proofs.service.Service.line.Goals as goal
+use Rattle.nn_live.proofs.service.Service.known_line.Goals as goal
 
 pub returns-then-is_blank-clause-ok : goal.returns-then-is_blank-clause-ok
 returns-then-is_blank-clause-ok g c =

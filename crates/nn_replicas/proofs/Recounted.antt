@@ -1,5 +1,5 @@
 -- The figures of a table after one cell of one of its entries changed.
-use Rattle.std.proofs.Common.{◌≡◌, ℕ, ◌+◌, ◌-◌, ◌<◌, ◌≤◌, ◌^◌, Bool, true, false, cond, List, [], ◌∷◌, length, count_by, Option, Some, None, is_some, inl, inr, refl, sym, ap, subst, ◌∙◌, arith, nat_cmp}
+use Rattle.std.proofs.Common.{◌≡◌, ℕ, ◌+◌, ◌-◌, ◌<◌, ◌≤◌, ◌^◌, Bool, true, false, not, cond, List, [], ◌∷◌, length, count_by, Option, Some, None, is_some, inl, inr, refl, sym, ap, subst, ◌∙◌, arith, nat_cmp}
 use Rattle.std.proofs.Math.Bool.{beq}
 use Rattle.std.specs.FinMap.Entries.{find, put, is_sorted}
 use Rattle.std.specs.Ordering.{is_eq}
@@ -18,7 +18,6 @@ use Rattle.nn_replicas.specs.Entry.{row_of, with_cell, live_cells}
 use Rattle.nn_replicas.specs.Figures.{is_class, class_by_row, share_of, IsChangedShare, IsChange, figures_in, standing_of, replaced, recounted, restood, one_if, Changes, MayReplace, MayRecount, MayRestand}
 use Rattle.nn_replicas.proofs.Entries.{weight, counted, counted_cons, counted_put, summed_there, length_put}
 use Rattle.nn_replicas.proofs.Classed.{live_are}
-use Rattle.nn_replicas.proofs.Told.{found_put}
 use Rattle.nn_replicas.proofs.Written.{Cells, entry}
 
 -- ---- the figures of one block, by the file that holds it
@@ -80,13 +79,9 @@ pub stands_open : (min : ℕ) (file : FileBlock) (xs ys : Cells) → file.closed
 stands_open min file xs ys k =
     ap (λ b. standing_of b file.replication min (live_cells file.block xs)) k ∙ sym (ap (λ b. standing_of b file.replication min (live_cells file.block ys)) k)
 
--- the live replicas before a change, from those behind it
-pub live_before : (file : FileBlock) (xs ys : Cells) (n a b : ℕ) → n ≡ live_cells file.block ys → a ≤ counted (has (Some file) Live) ys
-    → counted (has (Some file) Live) ys + b ≡ counted (has (Some file) Live) xs + a → (a ≤ n) × ((n - a) + b ≡ live_cells file.block xs)
-live_before file xs ys n a b h there moved =
-    let x = live_are file.block xs in
-    let y = live_are file.block ys in
-    (omega (arith, h, there, y), omega (arith, h, there, moved, x, y))
+-- a block of a closed file stands by its live replicas
+stands_closed : (min : ℕ) (file : FileBlock) (xs : Cells) (n : ℕ) → file.closed ≡ true → n ≡ live_cells file.block xs → standing_of true file.replication min n ≡ stands min (Some file) xs
+stands_closed min file xs n k h = ap (λ b. standing_of b file.replication min n) (sym k) ∙ ap (standing_of file.closed file.replication min) h
 
 -- ---- one figure
 
@@ -280,9 +275,6 @@ module _ (min dn : ℕ) (all : Figures) (e is : BlockEntry) (xs : Cells) (file :
   pub live_moved : counted (has file Live) after + one_if (is_class Live change.was.class) ≡ counted (has file Live) e.cells + one_if (is_class Live change.is.class)
   live_moved = omega (arith, counted_put (has file Live) dn c e.cells s, was_class Live, is_class_now Live)
 
-  pub live_there : one_if (is_class Live change.is.class) ≤ counted (has file Live) after
-  live_there = (let most = summed_there (λ z. cond (has file Live z) 1 0) dn after in let k = ap (weight (has file Live)) (found_put dn c e.cells) in omega (arith, most, k, is_class_now Live))
-
   -- where no live replica came or went
   pub stands_same : is_class Live change.was.class ≡ is_class Live change.is.class → stands min file e.cells ≡ stands min file after
   stands_same k = stands_by min file e.cells after (let l = ap one_if k in omega (arith, live_moved, l))
@@ -298,6 +290,51 @@ same_if false false h = refl
 pub changed_of : (e : BlockEntry) (dn : ℕ) (f : BlockEntry) (change : Difference) → IsChange e dn f (Some change) → (c : Cell) × (f ≡ with_cell e dn c) × IsChangedShare e.row (find nat_cmp dn e.cells) c (Some change)
 changed_of e dn f change (inl h) = let no = h.1 in cc
 changed_of e dn f change (inr h) = h
+
+pub other_if : (a b t : Bool) → beq a b ≡ false → b ≡ t → a ≡ not t
+other_if true true t h k = cc
+other_if true false t h k = ap not k
+other_if false true t h k = ap not k
+other_if false false t h k = cc
+
+-- a live replica of a block of a closed file came or went
+module _ (min dn : ℕ) (all : Figures) (e is : BlockEntry) (xs : Cells) (file : FileBlock) (v : entry (Some file) xs ≡ is) (c : Cell) (h : is ≡ with_cell e dn c)
+    (s : is_sorted nat_cmp e.cells ≡ true) (m : MayReplace all (figures_in min e) (figures_in min is))
+    (change : Difference) (part : IsChangedShare e.row (find nat_cmp dn e.cells) c (Some change))
+    (r : Figures) (counts : r ≡ recounted all change) (closed : file.closed ≡ true) (n : ℕ) (live : n ≡ live_cells file.block xs) where
+  abbrev pub Stood : ℕ → ℕ → Type 0
+  Stood a b =
+      MayRestand r (standing_of true file.replication min a) (standing_of true file.replication min b)
+      × (restood r (standing_of true file.replication min a) (standing_of true file.replication min b) ≡ replaced all (figures_in min e) (figures_in min is))
+
+  xs_after : xs ≡ after min dn all e is xs (Some file) v c h s m change part
+  xs_after = cells_so min dn all e is xs (Some file) v c h s m change part
+
+  stood : (a b : ℕ) → a ≡ live_cells file.block e.cells → b ≡ n → Stood a b
+  stood a b i j =
+      let was = stands_closed min file e.cells a closed i in
+      let now = stands_closed min file (after min dn all e is xs (Some file) v c h s m change part) b closed (j ∙ live ∙ ap (live_cells file.block) xs_after) in (
+        may_restand min dn all e is xs (Some file) v c h s m change part r counts _ _ was now,
+        restands min dn all e is xs (Some file) v c h s m change part r counts _ _ was now,
+      )
+
+  counted_now : n ≡ counted (has (Some file) Live) (after min dn all e is xs (Some file) v c h s m change part)
+  counted_now = live ∙ ap (live_cells file.block) xs_after ∙ sym (live_are file.block (after min dn all e is xs (Some file) v c h s m change part))
+
+  moved_by : n + one_if (is_class Live change.was.class) ≡ live_cells file.block e.cells + one_if (is_class Live change.is.class)
+  moved_by = (let x = live_are file.block e.cells in omega (arith, counted_now, live_moved min dn all e is xs (Some file) v c h s m change part, x))
+
+  pub came : is_class Live change.was.class ≡ false → is_class Live change.is.class ≡ true → (1 ≤ n) × Stood (n - 1) n
+  came l k =
+      let lived = ap one_if l in
+      let lives = ap one_if k in
+      (omega (arith, moved_by, lived, lives), stood (n - 1) n (omega (arith, moved_by, lived, lives)) refl)
+
+  pub went : is_class Live change.was.class ≡ true → is_class Live change.is.class ≡ false → Stood (n + 1) ((n + 1) - 1)
+  went l k =
+      let lived = ap one_if l in
+      let lives = ap one_if k in
+      stood (n + 1) ((n + 1) - 1) (omega (arith, moved_by, lived, lives)) (omega arith)
 
 -- none is told: the DataNode adds as much as before
 pub none_told : (min dn : ℕ) (all : Figures) (e is : BlockEntry) (xs : Cells) (file : Option FileBlock) → entry file xs ≡ is → is_sorted nat_cmp e.cells ≡ true → IsChange e dn is None

@@ -10,8 +10,8 @@ returns-in_default c =
     let none = sym (ap option_copied_mut c.in_default.is) ∙ c.get_mut.ensures.value in
     c.self.view_is ∙ not_changed c.args.self.now c.self.inside.min c.args.block c.self.inside.entries retired c.self.view_is none
 
-pub replaced-self-inside-requires : goal.replaced-self-inside-requires
-replaced-self-inside-requires c =
+pub replace-requires : goal.replace-requires
+replace-requires c =
     let h = written c.self.inside.entries (set_at c.args.block c.self.inside.entries c.retire.new.self) c.args.block c.in-Some.entry.now c.retire.new.self c.in-Some.ensures.value c.self.invariant.1 refl in
     may_set h c.self.inside.min c.self.inside.figures c.figures-was.result c.figures-is.result c.self.invariant.0 c.figures-was.ensures c.figures-is.ensures
     (let n = c.len-recalled.ensures.len in omega (arith, n, c.len-recalled.ensures.small))
@@ -20,7 +20,7 @@ replaced-self-inside-requires c =
 pub invariant_of-self-2 : goal.invariant_of-self-2
 invariant_of-self-2 c =
     let h = written c.self.inside.entries (set_at c.args.block c.self.inside.entries c.retire.new.self) c.args.block c.in-Some.entry.now c.retire.new.self c.in-Some.ensures.value c.self.invariant.1 refl in (
-      c.replaced-self-inside.ensures ∙ figures_set h c.self.inside.min c.self.inside.figures c.figures-was.result c.figures-is.result c.self.invariant.0 c.figures-was.ensures c.figures-is.ensures,
+      c.replace.ensures ∙ figures_set h c.self.inside.min c.self.inside.figures c.figures-was.result c.figures-is.result c.self.invariant.0 c.figures-was.ensures c.figures-is.ensures,
       sorted_set c.args.block c.self.inside.entries c.retire.new.self c.self.invariant.1,
     )
 

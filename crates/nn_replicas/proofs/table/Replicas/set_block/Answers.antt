@@ -22,8 +22,8 @@ returns-in_default-clause-ok c =
     let none = none_there c.args.self.now c.self.inside.min c.args.block.id c.self.inside.entries c.self.view_is (sym (ap option_copied_mut c.in_default.is) ∙ c.get_mut.ensures.value) in
     c.in_ok-add.ensures.ok ∙ ap (λ t. with_entry t c.args.block.id c.set_row.new.self) c.self.view_is ∙ add_new c.args.self.now c.args.block.id (λ e. entry_with_row e (record { block = c.args.block; closed = c.args.closed }) c.args.replication) c.set_row.new.self none (c.set_row.ensures ∙ ap (λ e. entry_with_row e (record { block = c.args.block; closed = c.args.closed }) c.args.replication) c.new-entry.ensures)
 
-pub replaced-self-inside-requires : goal.replaced-self-inside-requires
-replaced-self-inside-requires c =
+pub replace-requires : goal.replace-requires
+replace-requires c =
     let h = written c.self.inside.entries (set_at c.args.block.id c.self.inside.entries c.set_row-2.new.self) c.args.block.id c.in-Some.entry.now c.set_row-2.new.self c.in-Some.ensures.value c.self.invariant.1 refl in
     may_set h c.self.inside.min c.self.inside.figures c.figures-was.result c.figures-is.result c.self.invariant.0 c.figures-was.ensures c.figures-is.ensures
     (let n = c.len-recalled.ensures.len in omega (arith, n, c.len-recalled.ensures.small))
@@ -32,7 +32,7 @@ replaced-self-inside-requires c =
 pub invariant_of-self-2 : goal.invariant_of-self-2
 invariant_of-self-2 c =
     let h = written c.self.inside.entries (set_at c.args.block.id c.self.inside.entries c.set_row-2.new.self) c.args.block.id c.in-Some.entry.now c.set_row-2.new.self c.in-Some.ensures.value c.self.invariant.1 refl in (
-      c.replaced-self-inside.ensures ∙ figures_set h c.self.inside.min c.self.inside.figures c.figures-was.result c.figures-is.result c.self.invariant.0 c.figures-was.ensures c.figures-is.ensures,
+      c.replace.ensures ∙ figures_set h c.self.inside.min c.self.inside.figures c.figures-was.result c.figures-is.result c.self.invariant.0 c.figures-was.ensures c.figures-is.ensures,
       sorted_set c.args.block.id c.self.inside.entries c.set_row-2.new.self c.self.invariant.1,
     )
 

@@ -280,6 +280,16 @@ impl Entry {
         told_by(replica)
     }
 
+    // Whether a file of this replication holds the block with this row.
+    pub fn is_held_so(&self, row: &BlockRow, replication: u16) -> bool
+        ensures { IsTrue result → entry_with_row self.now row.now replication ≡ self.now }
+    {
+        let Some(file) = self.file else {
+            return false;
+        };
+        file.block == row.block && file.closed == row.closed && file.replication == replication
+    }
+
     // The generation stamp of the row.
     pub fn stamp(&self) -> Option<GenerationStamp>
         ensures { result ≡ stamp_in self.now.row }

@@ -100,6 +100,9 @@ impl Replicas {
             self.add(block.id, entry)?;
             return Ok(());
         };
+        if entry.is_held_so(&row, replication) {
+            return Ok(());
+        }
         let was = entry.figures(self.min);
         entry.set_row(row, replication);
         let is = entry.figures(self.min);

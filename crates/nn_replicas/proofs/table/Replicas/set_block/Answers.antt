@@ -2,7 +2,8 @@ use Rattle.std.proofs.Common.{refl, sym, ap, ◌∙◌, arith, length}
 use Rattle.std.specs.Option.{option_copied_mut}
 use Rattle.nn_replicas.specs.Entry.{entry_with_row}
 use Rattle.nn_replicas.specs.Calls.{with_entry}
-use Rattle.nn_replicas.proofs.Tables.{set_at, sorted_set, written, table, with_new, no_entry_there, none_there, add_new}
+use Rattle.nn_replicas.specs.Figures.{figures_of}
+use Rattle.nn_replicas.proofs.Tables.{set_at, sorted_set, written, table, with_new, same_new, no_entry_there, none_there, add_new}
 use Rattle.nn_replicas.proofs.Figured.{figures_set, may_set}
 use Rattle.nn_replicas.proofs.table.Replicas.set_block.Goals as goal
 
@@ -40,3 +41,15 @@ pub returns-clause-ok : goal.returns-clause-ok
 returns-clause-ok c =
     let h = written c.self.inside.entries (set_at c.args.block.id c.self.inside.entries c.set_row-2.new.self) c.args.block.id c.in-Some.entry.now c.set_row-2.new.self c.in-Some.ensures.value c.self.invariant.1 refl in
     with_new h c.args.self.now c.self.inside.min (λ e. entry_with_row e (record { block = c.args.block; closed = c.args.closed }) c.args.replication) c.self.view_is c.set_row-2.ensures
+
+pub invariant_of-self-then-is_held_so : goal.invariant_of-self-then-is_held_so
+invariant_of-self-then-is_held_so c =
+    let h = written c.self.inside.entries (set_at c.args.block.id c.self.inside.entries c.in-Some.entry.now) c.args.block.id c.in-Some.entry.now c.in-Some.entry.now c.in-Some.ensures.value c.self.invariant.1 refl in (
+      c.self.invariant.0 ∙ ap figures_of (sym (same_new h (table c.self.inside.min c.self.inside.entries) c.self.inside.min refl refl)),
+      sorted_set c.args.block.id c.self.inside.entries c.in-Some.entry.now c.self.invariant.1,
+    )
+
+pub returns-then-is_held_so-clause-ok : goal.returns-then-is_held_so-clause-ok
+returns-then-is_held_so-clause-ok c =
+    let h = written c.self.inside.entries (set_at c.args.block.id c.self.inside.entries c.in-Some.entry.now) c.args.block.id c.in-Some.entry.now c.in-Some.entry.now c.in-Some.ensures.value c.self.invariant.1 refl in
+    with_new h c.args.self.now c.self.inside.min (λ e. entry_with_row e (record { block = c.args.block; closed = c.args.closed }) c.args.replication) c.self.view_is (sym (c.is_held_so.ensures c.if-is_held_so.true))

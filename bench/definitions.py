@@ -224,10 +224,28 @@ class Source:
             yield kind, re.match(r"[\s&]*(\w+)", name).group(1), found.start(), end, ghost
 
     def models(self):
+        """Of each type with a model what its values are seen as, and how: the view and what they keep."""
         for kind, name, start, end, ghost in self.blocks:
             value = re.search(r"ghost Value = \{(.*?)\};", self.text[start:end], re.S)
             if kind == "Model" and value:
-                yield name, (value.group(1), imports(self.ghost + "\n" + ghost))
+                members = self.members(f"view of {name}", start, end, "view|invariant")
+                yield name, (value.group(1), imports(self.ghost + "\n" + ghost), members)
+
+    def traits(self):
+        """What each trait leaves to whoever implements it."""
+        for kind, name, start, end, _ in self.blocks:
+            if kind == "trait":
+                yield name, self.members(f"trait {name}", start, end, r"\w+:")
+
+    def members(self, name, start, end, begins):
+        """The ghost members of a block that begin so, as one definition. The names in them are not followed."""
+        definition = Definition(self.crate, self.file, name, None)
+        for found in re.finditer(rf"^    ghost (?:{begins}) ", self.text[start:end], re.M):
+            stop = closing(self.text, self.text.index("{", start + found.end()))
+            definition.start = definition.start or self.text.count("\n", 0, start + found.start()) + 1
+            definition.end = self.text.count("\n", 0, stop) + 1
+            definition.lines += [line for line in self.whole[start + found.start() : stop + 1].split("\n") if line.strip()]
+        return definition
 
     def types(self):
         for found in re.finditer(r"^(?:pub(?:\([a-z]+\))? )?(struct|enum) (\w+)", self.text, re.M):
@@ -295,6 +313,11 @@ def parameters(generics):
     return {found.group(1) for found in map(re.compile(r"\s*(\w+)").match, at_commas(generics[1:-1])) if found}
 
 
+def bounds(generics):
+    """The names of the traits that <..> asks for."""
+    return {name for part in at_commas(generics[1:-1]) for name in re.findall(r"\b[A-Z]\w*", part.partition(":")[2])}
+
+
 class Function:
     """A public function: its clauses, the types of its signature and the names that it binds."""
 
@@ -308,10 +331,12 @@ class Function:
         self.types = set(re.findall(r"\b[A-Z]\w*", text[at : head.start()])) - {"Self"} | ({owner} if owner else set())
         self.bound = set(re.findall(r"(\w+)\s*:(?!:)", text[at:end])) | {"result", "self", "Self"}
         self.bound |= parameters(text[found.end() : at])
+        self.traits = bounds(text[found.end() : at])
         for kind, _, start, stop, _ in source.blocks:
             if start < found.start() < stop:
                 opened = re.match(r"(?:pub )?\w+", text[start:]).end() + start
                 self.bound |= parameters(text[opened : behind_generics(text, opened)])
+                self.traits |= bounds(text[opened : behind_generics(text, opened)])
                 self.bound |= set(re.findall(r"^    ghost (\w+):", text[start:stop], re.M)) if kind == "trait" else set()
         self.clauses, self.lines = [], 0
         clause = re.compile(r"\s*(?:requires|ensures)\b\s*\w*\s*\{")
@@ -340,6 +365,11 @@ def types(crate):
 @functools.cache
 def models(crate):
     return {name: model for file in sources(crate) for name, model in source(crate, file).models()}
+
+
+@functools.cache
+def traits(crate):
+    return {name: trait for file in sources(crate) for name, trait in source(crate, file).traits()}
 
 
 @functools.cache
@@ -508,32 +538,34 @@ def is_constructor(target):
 # ---- what a definition names
 
 
-def rust_type(source, name):
-    """The type of ours that a name means in a source, or None."""
+def rust_type(source, name, among=types):
+    """The type of ours that a name means in a source, or None. Or what else is among those of a crate."""
     crate, name = source.uses.get(name, ("crate", name))
     crate = source.crate if crate in ("crate", "self", "super") else crate
     for _ in range(3):
-        if crate not in crates() or name in types(crate):
+        if crate not in crates() or name in among(crate):
             break
         crate, name = exported(crate).get(name, ("", name))
-    return types(crate).get(name) if crate in crates() else None
+    return among(crate).get(name) if crate in crates() else None
 
 
 def of_type(source, name):
-    """What contracts see of a type: its model's names, or the type itself; or nothing of ours. And the names that are lost."""
+    """What contracts see of a type: its view and its model's names, or the type itself; or nothing of ours. And the names that are lost."""
     found = rust_type(source, name)
     if found is None:
         return [], []
     if found.name not in models(found.crate):
         return [found], []
-    value, env = models(found.crate)[found.name]
+    value, env, view = models(found.crate)[found.name]
     names = Names(env, f"the model of {found.crate} {found.name}")
     names.walk(tokens(value), ())
-    return names.targets, names.lost
+    return names.targets + [view] * bool(view.lines), names.lost
 
 
 def named_by(definition):
     """The targets and types that a definition names, and the names that nothing explains."""
+    if of_members(definition):
+        return [], []
     if isinstance(definition.env, Source):
         pairs = [of_type(definition.env, name) for name in sorted(definition.types)]
         return sum((pair[0] for pair in pairs), []), sum((pair[1] for pair in pairs), [])
@@ -611,6 +643,8 @@ class Reach:
             self.take(names.targets + list(filter(None, own.values())), [lost for lost in names.lost if not own[lost[1]]])
             for name in sorted(function.types):
                 self.take(*of_type(function.source, name))
+            asked = (rust_type(function.source, name, traits) for name in sorted(function.traits))
+            self.take([trait for trait in asked if trait and trait.lines], [])
         while self.queue:
             self.take(*named_by(self.queue.popleft()))
 
@@ -652,8 +686,14 @@ class Reach:
             yield crate, file, sorted(definitions, key=lambda it: (it.file, it.start))
 
 
+def of_members(definition):
+    """Whether it is the view of a type, or what a trait leaves open."""
+    return definition.env is None
+
+
 def of_src(definition):
-    return isinstance(definition.env, Source)
+    """Whether it stands in src/."""
+    return isinstance(definition.env, Source) or of_members(definition)
 
 
 def lines_of(definitions):

@@ -3,11 +3,11 @@ use Rattle.std.proofs.Common.{length, ◌==◌, ◌≡◌, ℕ, zero, suc, ◌+�
 use Rattle.std.specs.List.{list_all, prefix_len}
 use Rattle.std.specs.Str.{IsUtf8}
 use Rattle.std.proofs.lemmas.Bool.{and_from, and_parts, eqb-false, eqb-true}
-use Rattle.std.proofs.lemmas.List.{drop-take, get_or-take, get_or_past, length-drop, take-append-drop, take-take, take_all}
+use Rattle.std.proofs.lemmas.List.{drop-take, get_or-take, get_or_past, length-drop, length-take, take-append-drop, take-take, take_all}
 use Rattle.std.proofs.lemmas.List.Folds.{list_all-append, list_all_at}
 use Rattle.std.proofs.lemmas.List.Sums.{prefix_len-le-length, prefix_len_stops}
 use Rattle.std.proofs.lemmas.Str.{IsUtf8-from_ascii}
-use Rattle.nn_bytes.specs.Runs.{is_printable, is_printable_byte, is_unescaped, is_unescaped_byte, is_unescaped_line}
+use Rattle.nn_bytes.specs.Runs.{IsPrintableTo, is_printable, is_printable_byte, is_unescaped, is_unescaped_byte, is_unescaped_line}
 
 -- ---- A run passes, and is UTF-8.
 
@@ -91,6 +91,9 @@ printable_line line n most e =
     let last = length line - 1 in
     ap is_unescaped (sym (take-take last n line most)) ∙ (halves is_unescaped_byte (take n line) last (unescaped_if (take n line) e)).0
 
+pub printable_whole : (line : List ℕ) → is_printable line ≡ true → is_unescaped_line line ≡ true
+printable_whole line e = (halves is_unescaped_byte line (length line - 1) (unescaped_if line e)).0
+
 -- The bytes up to one that is not printable need no escape, and those behind it up to the last.
 pub unescaped_behind : (line : List ℕ) (n : ℕ) → n ≤ length line - 1 → is_printable (take n line) ≡ true
     → is_unescaped (take (length line - 1 - n) (drop n line)) ≡ true → is_unescaped_line line ≡ true
@@ -117,5 +120,21 @@ return_is_ascii line n size front there i = at (nat_lt i n) (i == n) refl refl
 pub front_printable : (line : List ℕ) (n : ℕ) → n ≡ prefix_len is_printable_byte line → is_printable (take n line) ≡ true
 front_printable line n is = ap (λ k. is_printable (take k line)) is ∙ run_passes is_printable_byte line
 
-pub all_printable : (line : List ℕ) (n : ℕ) → n ≡ prefix_len is_printable_byte line → n ≡ length line → is_printable line ≡ true
-all_printable line n is whole = ap is_printable (sym (take_all n line (omega (arith, whole)))) ∙ front_printable line n is
+pub whole_printable : (line : List ℕ) (n : ℕ) → n ≡ length line → is_printable (take n line) ≡ true → is_printable line ≡ true
+whole_printable line n whole e = ap is_printable (sym (take_all n line (omega (arith, whole)))) ∙ e
+
+-- It goes on behind bytes that are printable.
+pub longer_run : (line : List ℕ) (n more : ℕ) → IsPrintableTo n line → more ≡ prefix_len is_printable_byte (take (length line - n) (drop n line))
+    → is_printable (take (n + more) line) ≡ true
+longer_run line n more known is =
+    let rest : take (length line - n) (drop n line) ≡ drop n line = take_all (length line - n) (drop n line) (omega (arith, length-drop n line)) in
+    both_halves is_printable_byte (take (n + more) line) n
+    (ap is_printable (take-take n (n + more) line (omega arith)) ∙ known.1)
+    (ap is_printable (drop-take n more line) ∙ front_printable (drop n line) more (is ∙ ap (prefix_len is_printable_byte) rest))
+
+-- A run of some bytes is one of the line that they begin with, if the line is as long.
+pub run_of_line : (bytes : List ℕ) (n at : ℕ) → n ≡ prefix_len is_printable_byte bytes → n ≤ at → at ≤ length bytes → IsPrintableTo n (take at bytes)
+run_of_line bytes n at is less within = (
+  omega (arith, less, within, length-take at bytes),
+  ap is_printable (take-take n at bytes less) ∙ front_printable bytes n is,
+)

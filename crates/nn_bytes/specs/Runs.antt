@@ -1,5 +1,5 @@
 -- Which bytes a run has.
-use Rattle.std.specs.Prelude.{ℕ, ◌-◌, List, length, take, Bool, not, nat_le, nat_lt, ◌&&◌, ◌==◌}
+use Rattle.std.specs.Prelude.{◌≡◌, ◌≤◌, ℕ, ◌-◌, List, length, take, Bool, true, not, nat_le, nat_lt, ◌&&◌, ◌==◌}
 use Rattle.std.specs.List.{list_all}
 
 -- A byte that is not this one.
@@ -16,6 +16,10 @@ is_printable_byte b = nat_le 32 b && nat_lt b 127 && not (b == 92)
 
 abbrev pub is_printable : List ℕ → Bool
 is_printable text = list_all is_printable_byte text
+
+-- The first so many bytes are.
+abbrev pub IsPrintableTo : ℕ → List ℕ → Type 0
+IsPrintableTo n text = (n ≤ length text) × (is_printable (take n text) ≡ true)
 
 -- No control character, and no backslash. So it needs no escape in JSON, if it is no quote.
 abbrev pub is_unescaped_byte : ℕ → Bool

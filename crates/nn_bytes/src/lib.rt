@@ -14,7 +14,7 @@ mod printable;
 mod unescaped;
 
 pub use digits::digit_run;
-pub use lines::{is_blank, line_end};
+pub use lines::{is_blank, known_line_end, line_end};
 pub use printable::{printable_is_utf8, printable_run};
 use std::simd::prelude::*;
 pub use unescaped::{LineText, known_text, text_of};

@@ -4,7 +4,7 @@ ghost use Rattle.std.specs.Prelude.{◌≡◌, ◌≤◌, ◌<◌, length, map, 
 ghost use Rattle.std.specs.List.{prefix_len};
 ghost use Rattle.std.specs.Simd.Lanes.{mask_l};
 ghost use Rattle.std.specs.Str.{IsUtf8};
-ghost use Rattle.nn_bytes.specs.Runs.{is_printable, is_unescaped, is_unescaped_byte, fails};
+ghost use Rattle.nn_bytes.specs.Runs.{IsPrintableTo, is_printable, is_unescaped, is_unescaped_byte, fails};
 ghost use Rattle.nn_bytes.specs.Texts.{IsKnownOf};
 
 use crate::printable::printable_run;
@@ -24,14 +24,19 @@ pub enum LineText<'a> {
     NotAsked,
 }
 
-/// Looks whether the bytes of a line are a text without escapes.
+/// Looks whether the bytes of a line are a text without escapes. The first bytes, so many as `printable` says, are known to be
+/// printable ASCII: they are not looked at.
 ///
 /// Whether they are UTF-8 is asked only where some are not printable ASCII. A carriage return may be the last one without it.
 #[inline(always)]
-pub fn known_text(line: &[u8]) -> LineText<'_>
+pub fn known_text(line: &[u8], printable: usize) -> LineText<'_>
+    requires { IsPrintableTo printable line.now }
     ensures { IsKnownOf line.now result }
 {
-    let run = printable_run(line);
+    if printable == line.len() {
+        return LineText::Unescaped(ascii_str(line));
+    }
+    let run = printable + printable_run(&line[printable..]);
     if run == line.len() {
         return LineText::Unescaped(ascii_str(line));
     }

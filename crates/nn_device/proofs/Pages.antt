@@ -73,16 +73,6 @@ pub piece_dropped : (p : Page) (piece : List ℕ) (now : Writer) → p.lost ≡ 
 piece_dropped p piece now lost = λ start text h.
     subst (λ b. HasGone b start (text ++ piece) p.left now) (sym lost) (lost_on start now text piece (subst (λ b. HasGone b start text p.left now) lost h))
 
--- a piece that goes into the room
-gone_on : (lost : Bool) (start now : Writer) (text left piece : List ℕ) → HasGone lost start text left now → HasGone lost start (text ++ piece) (left ++ piece) now
-gone_on false start now text left piece h = gathered_on start now text left piece h
-gone_on true start now text left piece h = lost_on start now text piece h
-
-pub piece_filled : (lost : Bool) (used end : ℕ) (room items filled piece : List ℕ) (start now : Writer) (text : List ℕ) → items ≡ room → take end filled ≡ take used items ++ piece
-    → HasGone lost start text (take used room) now → HasGone lost start (text ++ piece) (take end filled) now
-piece_filled lost used end room items filled piece start now text is fills h =
-    subst (λ l. HasGone lost start (text ++ piece) l now) (ap (λ i. take used i ++ piece) (sym is) ∙ sym fills) (gone_on lost start now text (take used room) piece h)
-
 -- ---- A text of many pieces.
 
 pub none_of : (text : List ℕ) (p : Page) (w : Writer) → PutsAllBut text text p w p w

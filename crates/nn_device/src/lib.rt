@@ -3,10 +3,12 @@
 #![tactic(auto)]
 
 mod page;
+mod piece;
 mod reader;
 mod writer;
 
 pub use page::Page;
+pub use piece::{SHORT, ShortPiece, TriedPiece, fill};
 pub use reader::{ReadFailed, Reader};
 pub use writer::{OutputFault, WriteFailed, Writer};
 

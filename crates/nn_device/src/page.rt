@@ -5,8 +5,10 @@ ghost use Rattle.std.specs.Prelude.{◌≡◌, ◌≤◌, ◌+◌, [], ◌∷◌
 ghost use Rattle.nn_device.specs.Device.{Writer as WriterView, Took};
 ghost use Rattle.nn_device.specs.Page.{HasPut, PutsPiece};
 ghost use Rattle.nn_device.specs.Parts.{TookPrefix};
+ghost use Rattle.nn_device.specs.declared.piece.TheConstants.{SHORT};
 ghost use Rattle.nn_device.specs.declared.writer.OutputFault.TheVariants.{WriteFailed};
 
+use crate::piece::{SHORT, ShortPiece, TriedPiece, fill};
 use crate::writer::{OutputFault, Writer};
 use std::alloc::Global;
 use std::io::Write;
@@ -59,7 +61,10 @@ impl Page {
         ensures { PutsPiece piece.now self.old writer.old self.new writer.new }
     {
         if piece.len() > self.room.len() - self.used {
-            self.put_without_room(writer, piece);
+            self.make_room(writer, piece.len());
+        }
+        if piece.len() > self.room.len() - self.used {
+            self.write_now(writer, piece);
             return;
         }
         self.used = fill(&mut self.room, self.used, piece);
@@ -71,28 +76,68 @@ impl Page {
         ensures { PutsPiece (byte ∷ []) self.old writer.old self.new writer.new }
     {
         if self.used == self.room.len() {
-            self.put_without_room(writer, &[byte]);
+            self.make_room(writer, 1);
+        }
+        if self.used == self.room.len() {
+            self.write_now(writer, &[byte]);
             return;
         }
         self.room[self.used] = byte;
         self.used += 1;
     }
 
-    // The next piece, where there is no room for it yet.
-    #[inline(never)]
-    fn put_without_room<W: Write>(&mut self, writer: &mut Writer<W>, piece: &[u8])
-        ensures { PutsPiece piece.now self.old writer.old self.new writer.new }
+    /// The next piece, made where it is to stand: for all of it there is one look whether there is room.
+    #[inline(always)]
+    pub fn put_short<W: Write, P: ShortPiece>(&mut self, writer: &mut Writer<W>, piece: P)
+        ensures { PutsPiece (P.text piece) self.old writer.old self.new writer.new }
     {
-        self.make_room(writer, piece.len());
-        if piece.len() > self.room.len() - self.used {
-            self.flush(writer);
-            self.write_piece(writer, piece);
+        if SHORT > self.room.len() - self.used {
+            self.make_room(writer, SHORT);
+        }
+        if SHORT > self.room.len() - self.used {
+            self.write_short(writer, piece);
             return;
         }
-        self.used = fill(&mut self.room, self.used, piece);
+        self.used = piece.fill(&mut self.room, self.used);
+    }
+
+    /// The next piece, made where it is to stand, if it can be made so. Otherwise nothing is put.
+    #[inline(always)]
+    pub fn try_piece<W: Write, P: TriedPiece>(&mut self, writer: &mut Writer<W>, piece: P) -> bool
+        ensures put { result ≡ true → PutsPiece (P.text piece) self.old writer.old self.new writer.new }
+        ensures not { result ≡ false → PutsPiece [] self.old writer.old self.new writer.new }
+    {
+        if FIRST_ROOM > self.room.len() - self.used {
+            self.make_room(writer, FIRST_ROOM);
+        }
+        let Some(end) = piece.fill(&mut self.room, self.used) else {
+            return false;
+        };
+        self.used = end;
+        true
+    }
+
+    // A short piece for which there is no room. It is made on the stack.
+    #[inline(never)]
+    fn write_short<W: Write, P: ShortPiece>(&mut self, writer: &mut Writer<W>, piece: P)
+        ensures { PutsPiece (P.text piece) self.old writer.old self.new writer.new }
+    {
+        let mut room = short_room();
+        let end = piece.fill(&mut room, 0);
+        self.write_now(writer, &room[..end]);
+    }
+
+    // A piece for which there is no room: it is written behind what was gathered.
+    #[inline(never)]
+    fn write_now<W: Write>(&mut self, writer: &mut Writer<W>, piece: &[u8])
+        ensures { PutsPiece piece.now self.old writer.old self.new writer.new }
+    {
+        self.flush(writer);
+        self.write_piece(writer, piece);
     }
 
     // Makes room for so many bytes: by more memory up to a part, then by writing what was gathered. There may be less of it.
+    #[inline(never)]
     fn make_room<W: Write>(&mut self, writer: &mut Writer<W>, more: usize)
         ensures { PutsPiece [] self.old writer.old self.new writer.new }
     {
@@ -178,15 +223,9 @@ impl Page {
     }
 }
 
-// Copies a piece into a room, behind what is used of it. Returns how much is used then.
-#[inline(always)]
-fn fill(room: &mut [u8], used: usize, piece: &[u8]) -> usize
-    requires { used + length piece.now ≤ length room.old }
-    ensures used { result ≡ used + length piece.now }
-    ensures len { length room.new ≡ length room.old }
-    ensures filled { take result room.new ≡ take used room.old ++ piece.now }
+// Room on the stack for a short piece.
+fn short_room() -> [u8; SHORT]
+    ensures { length result ≡ SHORT }
 {
-    let end = used + piece.len();
-    room[used..end].copy_from_slice(piece);
-    end
+    [0; SHORT]
 }

@@ -29,7 +29,8 @@ pub(crate) enum State {
 #[derive(Drop)]
 pub(crate) struct Fields<'a> {
     number_states: [State; 8],
-    text_states: [State; 5],
+    // Eight, so that they fill a word, as those of the numbers do.
+    text_states: [State; 8],
     numbers: [u64; 8],
     texts: [&'a str; 5],
     blocks: Result<Blocks, LineFault>,
@@ -43,7 +44,7 @@ impl<'a> Fields<'a> {
     {
         Fields {
             number_states: [State::Missing; 8],
-            text_states: [State::Missing; 5],
+            text_states: [State::Missing; 8],
             numbers: [0; 8],
             texts: [""; 5],
             blocks: Err(LineFault::MissingField),

@@ -1,6 +1,7 @@
 //! From the bytes of a line to a transaction or a report.
 ghost use Rattle.std.specs.Prelude.{◌≡◌, Ok, IfOk};
 ghost use Rattle.serde_json.specs.Data.{object, no_members};
+ghost use Rattle.nn_bytes.specs.Runs.{IsPrintableTo};
 ghost use Rattle.nn_edits.specs.Grammar.{IsEditLine, IsReportLine, IsLine, IsLawfulReport, IsLawfulLine};
 ghost use Rattle.nn_types.specs.LawfulEdit.{IsLawfulEdit};
 ghost use Rattle.nn_edits.specs.Outcome.{LineGives, LineGivesSeen};
@@ -15,6 +16,7 @@ use crate::fields::Fields;
 use crate::keys::TextKey;
 use crate::reading::tx_in;
 use crate::report::report_in;
+use crate::texts::KeptTexts;
 use json::Scratch;
 use nn_bytes::{LineText, known_text, text_of};
 use nn_plain::read_plain;
@@ -73,41 +75,73 @@ pub fn read_line(alloc: Global, scratch: &mut Scratch, line: &[u8]) -> Result<Li
     ensures exact { LineGives result (either_of_line line.now) }
     ensures lawful { IfOk result IsLawfulLine }
 {
-    either_of_line(alloc, scratch, line)
+    let mut texts = KeptTexts::new(alloc);
+    read_line_into(alloc, scratch, &mut texts, line, 0)
+}
+
+/// The same, with the texts of its paths in the room of texts that a caller keeps over its lines, and of a line whose first
+/// bytes, so many as `printable` says, are known to be printable ASCII without a backslash: they are not looked at for that once
+/// more. What the kept texts say has no part in the line. A line whose paths have room in them takes no memory for a path.
+pub fn read_line_into(
+    alloc: Global,
+    scratch: &mut Scratch,
+    texts: &mut KeptTexts,
+    line: &[u8],
+    printable: usize,
+) -> Result<Line, LineFault>
+    requires { IsPrintableTo printable line.now }
+    ensures found { IfOk result (IsLine line.now) }
+    ensures only { (read : LineData) → IsLine line.now read → LineGives result (Ok read) }
+    ensures exact { LineGives result (either_of_line line.now) }
+    ensures lawful { IfOk result IsLawfulLine }
+{
+    either_of_line(alloc, scratch, texts, line, printable)
 }
 
 fn edit_of_line(alloc: Global, scratch: &mut Scratch, line: &[u8]) -> Result<Tx, LineFault>
     ensures { LineGives result (edit_of_line line.now) }
 {
     let mut fields = Fields::none();
-    fields_in(alloc, scratch, line, &mut fields)?;
-    tx_in(alloc, &mut fields)
+    fields_in(alloc, scratch, line, 0, &mut fields)?;
+    let mut texts = KeptTexts::new(alloc);
+    tx_in(alloc, &mut texts, &mut fields)
 }
 
 fn report_of_line(alloc: Global, scratch: &mut Scratch, line: &[u8]) -> Result<Report, LineFault>
     ensures { LineGives result (report_of_line line.now) }
 {
     let mut fields = Fields::none();
-    fields_in(alloc, scratch, line, &mut fields)?;
+    fields_in(alloc, scratch, line, 0, &mut fields)?;
     report_in(&fields)
 }
 
-fn either_of_line(alloc: Global, scratch: &mut Scratch, line: &[u8]) -> Result<Line, LineFault>
+fn either_of_line(
+    alloc: Global,
+    scratch: &mut Scratch,
+    texts: &mut KeptTexts,
+    line: &[u8],
+    printable: usize,
+) -> Result<Line, LineFault>
+    requires { IsPrintableTo printable line.now }
     ensures { LineGives result (either_of_line line.now) }
 {
     let mut fields = Fields::none();
-    fields_in(alloc, scratch, line, &mut fields)?;
-    either_in(alloc, &mut fields)
+    fields_in(alloc, scratch, line, printable, &mut fields)?;
+    either_in(alloc, texts, &mut fields)
 }
 
 #[tactic(auto, unfolding(crate::specs::Parts::either_from))]
-fn either_in(alloc: Global, fields: &mut Fields<'_>) -> Result<Line, LineFault>
+fn either_in(
+    alloc: Global,
+    texts: &mut KeptTexts,
+    fields: &mut Fields<'_>,
+) -> Result<Line, LineFault>
     ensures { LineGives result (either_from (seen_fields fields.old)) }
 {
     if fields.lacks_text(TextKey::Op) {
         return Ok(Line::Report(report_in(fields)?));
     }
-    Ok(Line::Edit(tx_in(alloc, fields)?))
+    Ok(Line::Edit(tx_in(alloc, texts, fields)?))
 }
 
 // What the object of a line has at the keys of the formats.
@@ -115,15 +149,17 @@ fn fields_in<'a>(
     alloc: Global,
     scratch: &'a mut Scratch,
     line: &'a [u8],
+    printable: usize,
     fields: &mut Fields<'a>,
 ) -> Result<(), LineFault>
-    requires { seen_fields fields.old ≡ parts_of (object no_members) }
+    requires printable { IsPrintableTo printable line.now }
+    requires none { seen_fields fields.old ≡ parts_of (object no_members) }
     ensures { LineGivesSeen (λ _. seen_fields fields.new) result (parts_of_line line.now) }
 {
     if line.len() > MAX_LINE_LEN {
         return Err(LineFault::LineTooLong);
     }
-    let known = known_text(line);
+    let known = known_text(line, printable);
     if let LineText::Unescaped(text) = known {
         if read_plain(alloc, text, fields) {
             return Ok(());

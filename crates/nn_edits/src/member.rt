@@ -90,9 +90,14 @@ pub(crate) fn profile_in(fields: &Fields<'_>) -> Result<Profile, LineFault>
 }
 
 #[tactic(auto, unfolding(crate::specs::Parts::path_from))]
-pub(crate) fn path_in(alloc: Global, fields: &Fields<'_>, key: TextKey) -> Result<Path, LineFault>
+pub(crate) fn path_in(
+    alloc: Global,
+    kept: &mut String,
+    fields: &Fields<'_>,
+    key: TextKey,
+) -> Result<Path, LineFault>
     ensures { LineGives result (path_from (text_seen fields.now key)) }
 {
     let text = fields.text(key)?;
-    Ok(Path::parse(alloc, text)?)
+    Ok(Path::parse_into(alloc, kept, text)?)
 }

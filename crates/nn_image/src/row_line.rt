@@ -38,7 +38,7 @@ pub(crate) fn row_line(alloc: Global, line: &[u8]) -> Result<RowLine, AllocError
     ensures end { IfOk result (λ r. is_end_row r ≡ is_end_line line.now) }
     ensures limit { IfOk result HasLimit }
 {
-    let known = known_text(line);
+    let known = known_text(line, 0);
     let mut members = RowMembers::none();
     if let LineText::Unescaped(text) = known {
         if read_plain(alloc, text, &mut members) {

@@ -137,10 +137,10 @@ module _ (buf known : List ℕ) (s e : ℕ) (deref : known ≡ buf) (at : ℕ) (
       )
 
 -- the line that ended came in one read
-pub read_line : (most : ℕ) (bytes : List ℕ) (lines : List (List ℕ)) (start end : ℕ) (text : List ℕ) (old new : Lines) → 1 ≤ most → length old.torn.kept ≡ 0 → is_unbroken text ≡ true → ahead old ≡ text ++ line_feed ∷ ahead new
-    → new.torn ≡ old.torn → line_text new (place.Read start end) ≡ text → HasCome most bytes lines old → HasEnded most bytes lines (place.Read start end) new
+pub read_line : (most : ℕ) (bytes : List ℕ) (lines : List (List ℕ)) (start end printable : ℕ) (text : List ℕ) (old new : Lines) → 1 ≤ most → length old.torn.kept ≡ 0 → is_unbroken text ≡ true → ahead old ≡ text ++ line_feed ∷ ahead new
+    → new.torn ≡ old.torn → line_text new (place.Read start end printable) ≡ text → HasCome most bytes lines old → HasEnded most bytes lines (place.Read start end printable) new
 unfolding one_ends
-read_line most bytes lines start end text old new some none whole cut same there h =
+read_line most bytes lines start end printable text old new some none whole cut same there h =
     let empty : h.torn ≡ [] = none_torn most h.torn old.torn some h.kept none in
     let line : h.torn ++ text ≡ text = ap (λ t. t ++ text) empty in
     record {

@@ -5,6 +5,7 @@ use Rattle.std.specs.Io.KnownBytes.{Consumes}
 use Rattle.nn_device.specs.Device.{Reader}
 use Rattle.nn_bytes.specs.Lines.{is_blank}
 use Rattle.nn_bytes.specs.Pieces.{is_unbroken, joined_lines}
+use Rattle.nn_bytes.specs.Runs.{IsPrintableTo}
 use Rattle.nn_input.specs.declared.lines.Place.{Place}
 use Rattle.nn_input.specs.declared.lines.Place.TheVariants as place
 use Rattle.nn_input.specs.declared.fault.LinesFault.{LinesFault}
@@ -42,17 +43,18 @@ IsFresh l = l.torn ≡ no_bytes
 
 -- the text of a line that has ended
 abbrev pub line_text : Lines → Place → List ℕ
-line_text l (place.Read start end) = take (end - start) (drop start l.buffer)
+line_text l (place.Read start end printable) = take (end - start) (drop start l.buffer)
 line_text l place.Kept = l.last.kept
 
 -- and whether the line is blank, which is known where its text was cut short too
 abbrev pub line_blank : Lines → Place → Bool
-line_blank l (place.Read start end) = is_blank (line_text l (place.Read start end))
+line_blank l (place.Read start end printable) = is_blank (line_text l (place.Read start end printable))
 line_blank l place.Kept = l.last.blank
 
--- its place is there
+-- its place is there, and its first bytes are printable
 abbrev pub IsThere : Place → Lines → Type 0
-IsThere (place.Read start end) l = (start ≤ end) × (end ≤ length l.buffer)
+IsThere (place.Read start end printable) l =
+    (start ≤ end) × (end ≤ length l.buffer) × IsPrintableTo printable (take (end - start) (drop start l.buffer))
 IsThere place.Kept l = Unit {0}
 
 -- The one relation. Of an input these bytes were read: these lines have ended in them, the line in hand is kept as far as it may be, and

@@ -1,12 +1,13 @@
 //! The lines of a reader, one after another.
 ghost use Rattle.std.specs.Prelude.{◌≡◌, ◌≤◌, ◌<◌, ◌+◌, ◌^◌, [], ◌∷◌, List, ℕ, false, length, IfOk, IfErr, IfSome, None, OnErr, true};
 ghost use Rattle.std.specs.Io.KnownBytes.{IsAtEnd, Keeps};
+ghost use Rattle.nn_bytes.specs.Runs.{IsPrintableTo};
 ghost use Rattle.nn_device.specs.Device.{FailedToReadOn};
 ghost use Rattle.nn_input.specs.Cut.{AsNoted, HasCome, HasEnded, IsCutTo, IsFresh, IsThere, NextEnded, ReadOn, Refilled, ahead, line_blank, line_text, no_bytes, still_to_cut};
 
 use crate::fault::LinesFault;
 use crate::torn::TornBytes;
-use nn_bytes::{is_blank, line_end};
+use nn_bytes::{is_blank, known_line_end, line_end};
 use nn_device::{ReadFailed, Reader};
 use std::alloc::{AllocError, Global};
 use std::io::Read;
@@ -19,8 +20,8 @@ const BUFFER: usize = 65_536;
 /// Where the text of a line lies.
 #[derive(Clone, Copy, Debug, PartialEq, Eq)]
 pub enum Place {
-    /// It came in one read, from here to there.
-    Read(usize, usize),
+    /// It came in one read, from here to there; and so many of its first bytes are printable ASCII without a backslash.
+    Read(usize, usize, usize),
     /// It came in more than one.
     Kept,
 }
@@ -77,14 +78,16 @@ impl Lines {
         ensures none { IfOk result (λ found. found ≡ None → IsCutTo most self.old self.new × (ahead self.new ≡ [])) }
         ensures left { OnErr result (self.new ≡ self.old) }
     {
-        let from = self.from;
-        let left = &self.buffer[from..self.to];
-        let end = line_end(left);
-        if end == left.len() || !self.torn.as_slice().is_empty() {
-            return self.cut_torn(most);
+        if self.torn.as_slice().is_empty() {
+            let from = self.from;
+            let left = &self.buffer[from..self.to];
+            let (end, printable) = known_line_end(left);
+            if end != left.len() {
+                self.from = from + end + 1;
+                return Ok(Some(Place::Read(from, from + end, printable)));
+            }
         }
-        self.from = from + end + 1;
-        Ok(Some(Place::Read(from, from + end)))
+        self.cut_torn(most)
     }
 
     // The same where no line ends in what was read, or bytes of the one that ends are kept. It looks for the line feed again: so a line
@@ -220,7 +223,7 @@ impl Lines {
         ensures fits { length result.now < 2 ^ 63 }
     {
         match place {
-            Place::Read(start, end) => &self.buffer[start..end],
+            Place::Read(start, end, _) => &self.buffer[start..end],
             Place::Kept => self.last.as_slice(),
         }
     }
@@ -231,8 +234,19 @@ impl Lines {
         ensures { result ≡ line_blank self.now place }
     {
         match place {
-            Place::Read(start, end) => is_blank(&self.buffer[start..end]),
+            Place::Read(start, end, _) => is_blank(&self.buffer[start..end]),
             Place::Kept => self.last.is_blank(),
+        }
+    }
+
+    /// How many of the first bytes of the line that has just ended are known to be printable ASCII without a backslash.
+    pub fn printable(&self, place: Place) -> usize
+        requires { IsThere place self.now }
+        ensures { IsPrintableTo result (line_text self.now place) }
+    {
+        match place {
+            Place::Read(_, _, printable) => printable,
+            Place::Kept => 0,
         }
     }
 

@@ -16,7 +16,7 @@ pub event_pieces : (dn number block cause : List ℕ)
 event_pieces dn number block cause = simp append_assoc
 
 pub file_pieces : (path replication state blocks : List ℕ)
-    → codes "file " ++ (path ++ (field replication ++ (field state ++ (blocks ++ line_feed ∷ []))))
+    → codes "file " ++ (path ++ ((field replication ++ field state) ++ (blocks ++ line_feed ∷ [])))
     ≡ codes "file " ++ path ++ codes " " ++ replication ++ codes " " ++ state ++ blocks ++ line_feed ∷ []
 file_pieces path replication state blocks = simp append_assoc
 
@@ -24,11 +24,6 @@ pub unsafe_pieces : (block live path : List ℕ)
     → codes "unsafe" ++ (field block ++ (field live ++ (codes " " ++ (path ++ line_feed ∷ []))))
     ≡ codes "unsafe " ++ block ++ codes " " ++ live ++ codes " " ++ path ++ line_feed ∷ []
 unsafe_pieces block live path = simp append_assoc
-
-pub replica_pieces : (id dn stamp len kind class : List ℕ)
-    → codes "replica" ++ (field id ++ (field dn ++ (field stamp ++ (field len ++ (field kind ++ (field class ++ line_feed ∷ []))))))
-    ≡ codes "replica " ++ id ++ codes " " ++ dn ++ codes " " ++ stamp ++ codes " " ++ len ++ codes " " ++ kind ++ codes " " ++ class ++ line_feed ∷ []
-replica_pieces id dn stamp len kind class = simp append_assoc
 
 pub counts_pieces : (total safe needed mode : List ℕ)
     → codes "blocks" ++ (field total ++ (codes " safe" ++ (field safe ++ (codes " needed" ++ (field needed ++ (codes " mode" ++ (field mode ++ line_feed ∷ [])))))))

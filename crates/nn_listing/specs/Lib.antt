@@ -10,3 +10,4 @@ pub mod SafetyRows
 pub mod Summary
 pub mod Counted
 pub mod SummaryRows
+pub mod Lines

@@ -7,6 +7,7 @@
 
 mod fields;
 mod history;
+mod parts;
 mod paths;
 mod safety;
 mod summary;

@@ -9,12 +9,13 @@ ghost use Rattle.nn_model.specs.declared.form.Form.TheVariants.{File};
 ghost use Rattle.nn_tree.specs.Found.{form_of};
 ghost use Rattle.nn_tree.specs.Listing.{lent_names};
 ghost use Rattle.nn_tree.specs.Rows.{extent_of, greatest_depth};
-ghost use Rattle.nn_listing.specs.Listing.{listing_text, path_line, row_line, block_text, state_text};
+ghost use Rattle.nn_listing.specs.Listing.{listing_text, path_line, row_line, block_text};
 
-use crate::fields::{put_field, put_word};
+use crate::fields::put_field;
+use crate::parts::{BlockText, FileState};
 use nn_device::{OutputFault, Page, Writer};
 use nn_model::FileRow;
-use nn_text::{put_number, put_path};
+use nn_text::put_path;
 use nn_tree::{Extent, Found, Namespace, Rows};
 use nn_types::Block;
 use std::alloc::{AllocError, Global};
@@ -136,8 +137,11 @@ fn put_file<W: Write>(page: &mut Page, writer: &mut Writer<W>, names: &[&str], f
 {
     page.put(writer, b"file ");
     put_path(page, writer, names);
-    put_field(page, writer, u64::from(file.replication.get()));
-    put_word(page, writer, state(file.closed));
+    let state = FileState {
+        replication: u64::from(file.replication.get()),
+        closed: file.closed,
+    };
+    page.put_short(writer, state);
     put_blocks(page, writer, file.blocks.as_slice());
     page.put_byte(writer, b'\n');
 }
@@ -153,16 +157,5 @@ fn put_blocks<W: Write>(page: &mut Page, writer: &mut Writer<W>, blocks: &[Block
 fn put_block<W: Write>(page: &mut Page, writer: &mut Writer<W>, block: Block)
     ensures { PutsPiece (block_text block) page.old writer.old page.new writer.new }
 {
-    put_field(page, writer, block.id.get());
-    page.put_byte(writer, b':');
-    put_number(page, writer, block.stamp.get());
-    page.put_byte(writer, b':');
-    put_number(page, writer, block.len.get());
-}
-
-// Whether a file is complete.
-fn state(closed: bool) -> &'static str
-    ensures { result.now ≡ state_text closed }
-{
-    if closed { "closed" } else { "open" }
+    page.put_short(writer, BlockText { block });
 }

@@ -8,6 +8,7 @@ ghost use Rattle.nn_replicas.specs.SafeMode.{counts_of};
 ghost use Rattle.nn_listing.specs.Tables.{mode_text, replica_line, order_line, blocks_line, lines_of_block, lines_of_replicas, lines_of_orders, replica_lines_by, order_lines_by, IsOfSaid, IsPicture, tables_text};
 
 use crate::fields::{put_field, put_word};
+use crate::parts::ReplicaLine;
 use nn_device::{Page, Writer};
 use nn_replicas::{Replicas, ReplicasOf, SafeMode, class};
 use nn_types::{Block, BlockId, Replica};
@@ -114,14 +115,15 @@ fn put_replica<W: Write>(
 )
     ensures { PutsPiece (replica_line id block dn replica) page.old writer.old page.new writer.new }
 {
-    page.put(writer, b"replica");
-    put_field(page, writer, id.get());
-    put_field(page, writer, u64::from(dn));
-    put_field(page, writer, replica.stamp.get());
-    put_field(page, writer, replica.len.get());
-    put_word(page, writer, replica.kind.word());
-    put_word(page, writer, class(replica, block).word());
-    page.put(writer, b"\n");
+    let of_line = replica;
+    let class = class(replica, block);
+    let line = ReplicaLine {
+        id,
+        dn,
+        replica: of_line,
+        class,
+    };
+    page.put_short(writer, line);
 }
 
 fn put_orders<W: Write>(page: &mut Page, writer: &mut Writer<W>, orders: &[(BlockId, u16)])

@@ -97,7 +97,9 @@ impl ServedInput {
                 .service
                 .long_line(page, writer, self.lines.is_blank(place));
         }
-        self.service.line(&mut self.scratch, page, writer, text)
+        let printable = self.lines.printable(place);
+        self.service
+            .known_line(&mut self.scratch, page, writer, text, printable)
     }
 
     /// The input has ended, and all its lines are taken. The bytes behind the last line feed are a line, but no word; and a segment

@@ -1,137 +1,40 @@
-//! The messages about a block that releases would give, and the pass through its queue that finds them.
-ghost use Rattle.std.specs.Prelude.{◌≡◌, ◌≤◌, ◌++◌, ◌&&◌, not, take, length, [], ◌∷◌, IfSome, IfNone};
+//! The messages about a block that releases would give, where they are few; and what a message is looked at for.
+ghost use Rattle.std.specs.Prelude.{◌≡◌, ◌≤◌, ◌&&◌, not, take, length, []};
 ghost use Rattle.std.specs.List.{list_any};
 ghost use Rattle.nn_postponed.specs.Places.{present};
-ghost use Rattle.nn_postponed.specs.Scans.{KnowsStuck, Marks, will_go};
+ghost use Rattle.nn_postponed.specs.Scans.{will_go};
 ghost use Rattle.nn_postponed.specs.Release.{same_source, due_at, freed};
 
-use crate::heads::same_source;
-use nn_types::limits::MAX_DATANODES;
 use nn_types::{BlockId, Message, Status, due};
-use std::marker::Model;
 
-// A place for each DataNode, and one for 0, which none has.
-const PLACES: usize = MAX_DATANODES as usize + 1;
-
-/// What releases of a block would give, one message after another, while all of it is held. It takes no memory, and one
-/// pass over the block's queue in all.
-#[derive(Drop)]
-pub(crate) struct Freed<'a> {
-    messages: &'a [Option<Message>],
-    // The next place to look at.
-    at: usize,
-    block: BlockId,
-    status: Status,
-    // Of each DataNode, whether one of its messages before that place is not due.
-    stuck: [bool; PLACES],
-}
-
-impl<'a> Model for Freed<'a> {
-    ghost use Rattle.std.specs.Prelude.{◌≤◌, List, take, drop, length};
-    ghost use Rattle.nn_types.specs.declared.report.Message.{Message};
-    ghost use Rattle.nn_postponed.specs.Places.{present};
-    ghost use Rattle.nn_postponed.specs.Release.{due_at};
-    ghost use Rattle.nn_postponed.specs.Scans.{going, KnowsStuck};
-
-    ghost Value = { List Message };
-
-    ghost view = { λ f. going (due_at f.block f.status) (present (take f.at f.messages.now)) (present (drop f.at f.messages.now)) };
-
-    ghost invariant = { λ f. (f.at ≤ length f.messages.now) × KnowsStuck (due_at f.block f.status) f.block (present (take f.at f.messages.now)) f.stuck };
-}
-
-impl<'a> Freed<'a> {
-    pub(crate) fn new(messages: &'a [Option<Message>], block: BlockId, status: Status) -> Freed<'a>
-        ensures { result ≡ freed (due_at block status) [] (present messages.now) }
-    {
-        Freed {
-            messages,
-            at: 0,
-            block,
-            status,
-            stuck: [false; PLACES],
+/// How many of a few messages releases of a block would give, one after another. It looks at each one for each one.
+pub(crate) fn free_count(messages: &[Option<Message>], block: BlockId, status: Status) -> u64
+    ensures { result ≡ length (freed (due_at block status) [] (present messages.now)) }
+{
+    let mut count: u64 = 0;
+    for place in 0..messages.len() {
+        let Some(m) = messages[place] else {
+            continue;
+        };
+        if goes(messages, place, &m, block, &status) {
+            count += 1;
         }
     }
-
-    /// The next one.
-    pub(crate) fn next(&mut self) -> Option<Message>
-        ensures some { IfSome result (λ m. self.old ≡ m ∷ self.new) }
-        ensures none { IfNone result ((self.old ≡ []) × (self.new ≡ [])) }
-    {
-        while self.at < self.messages.len() {
-            let at = self.at;
-            self.at = at + 1;
-            let Some(m) = self.messages[at] else {
-                continue;
-            };
-            if goes(
-                &mut self.stuck,
-                self.messages,
-                at,
-                &m,
-                self.block,
-                &self.status,
-            ) {
-                return Some(m);
-            }
-        }
-        None
-    }
+    count
 }
 
-/// Whether this message, which stands at the place, goes, once those before it went that go. What is known of a
-/// DataNode is whether one of its messages before the place is not due.
-pub(crate) fn goes(
-    stuck: &mut [bool],
+// Whether this message, which stands at the place, goes, once those before it went that go.
+fn goes(
     messages: &[Option<Message>],
-    at: usize,
+    place: usize,
     m: &Message,
     block: BlockId,
     status: &Status,
 ) -> bool
-    requires place { at ≤ length messages.now }
-    requires knows { KnowsStuck (due_at block status.now) block (present (take at messages.now)) stuck.old }
-    ensures goes { result ≡ will_go (due_at block status.now) (present (take at messages.now)) m.now }
-    ensures knows { KnowsStuck (due_at block status.now) block (present (take at messages.now) ++ m.now ∷ []) stuck.new }
-    ensures len { length stuck.new ≡ length stuck.old }
+    requires { place ≤ length messages.now }
+    ensures { result ≡ will_go (due_at block status.now) (present (take place messages.now)) m.now }
 {
-    if is_due_at(m, block, status) {
-        return !is_behind(stuck, messages, at, m, block, status);
-    }
-    mark(stuck, m, block);
-    false
-}
-
-/// Whether one of the messages before a place is of this one's DataNode and block, and not due: what is known of the
-/// DataNode, and a look at each message only where nothing can be known of so high a DataNode.
-pub(crate) fn is_behind(
-    stuck: &[bool],
-    messages: &[Option<Message>],
-    end: usize,
-    m: &Message,
-    block: BlockId,
-    status: &Status,
-) -> bool
-    requires place { end ≤ length messages.now }
-    requires knows { KnowsStuck (due_at block status.now) block (present (take end messages.now)) stuck.now }
-    ensures { result ≡ list_any (λ e. same_source m.now e && not (due_at block status.now e)) (present (take end messages.now)) }
-{
-    let dn = usize::from(m.dn);
-    if m.block == block && dn < stuck.len() {
-        return stuck[dn];
-    }
-    has_late(messages, end, m, block, status)
-}
-
-/// From now on it is known that a message of this one's DataNode is not due.
-pub(crate) fn mark(stuck: &mut [bool], m: &Message, block: BlockId)
-    ensures knows { Marks block m.now stuck.old stuck.new }
-    ensures len { length stuck.new ≡ length stuck.old }
-{
-    let dn = usize::from(m.dn);
-    if m.block == block && dn < stuck.len() {
-        stuck[dn] = true;
-    }
+    is_due_at(m, block, status) && !has_late(messages, place, m, block, status)
 }
 
 // Whether one of the messages before a place is of this one's DataNode and block, and not due.
@@ -161,4 +64,11 @@ pub(crate) fn is_due_at(m: &Message, block: BlockId, status: &Status) -> bool
     ensures { result ≡ due_at block status.now m.now }
 {
     m.block == block && due(*status, m.stamp)
+}
+
+/// Whether the two messages are of one DataNode and about one block.
+pub(crate) fn same_source(m: &Message, other: &Message) -> bool
+    ensures { result ≡ same_source m.now other.now }
+{
+    other.dn == m.dn && other.block == m.block
 }

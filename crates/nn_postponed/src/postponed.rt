@@ -44,12 +44,14 @@ const LIMIT: usize = 9223372036854775807;
 
 /// The messages that wait.
 ///
-/// Each block about which messages wait has a queue of its own. The queues stand in chunks, by ascending block. A call takes
-/// O(log blocks + DataNodes of the block), in the mean over all calls where it takes a message: from time to time the
-/// messages that are left close up in one pass, and what comes next of its DataNode is looked for, past each message once
-/// for each DataNode. A queue that comes or goes moves those behind it in its chunk, 64 at most, and sometimes chunks.
-/// `due_count`, and `queue` to its end, are one pass over the block's queue each. A queue that has become empty leaves the
-/// map.
+/// Each block about which messages wait has a queue of its own. The queues stand in chunks, by ascending block, with up to
+/// three messages of each; only the fourth one takes memory for its queue alone. A call takes O(log blocks + log messages of
+/// the block), in the mean over all calls where it holds a message: from time to time a queue makes more places, or its
+/// messages close up. A queue that comes or goes moves those behind it in its chunk, 64 at most, and sometimes chunks. A
+/// queue that has become empty leaves the map.
+///
+/// A message that was taken leaves a hole. `queue` to its end is a pass over the queue's places, holes too; `due_count` looks
+/// at each DataNode that waits about the block, and at each message that it counts.
 ///
 /// The messages of each DataNode are counted, in eight bytes for each DataNode up to the highest from which one was held.
 #[derive(Debug, Drop)]
@@ -134,8 +136,8 @@ impl Postponed {
         let Some(queue) = self.queues.get_mut(&message.block) else {
             // Recalls to the prover that a block id keeps its limits.
             let _recalled = message.block.get();
-            let mut queue = Queue::new(self.alloc);
-            let Ok(()) = queue.push(message) else {
+            let mut queue = Queue::new();
+            let Ok(()) = queue.push(self.alloc, message) else {
                 return Err(AllocError);
             };
             let Ok(_) = self.queues.insert(message.block, queue) else {
@@ -145,7 +147,7 @@ impl Postponed {
             self.counts.more(message.dn);
             return Ok(());
         };
-        let Ok(()) = queue.push(message) else {
+        let Ok(()) = queue.push(self.alloc, message) else {
             return Err(AllocError);
         };
         self.count += 1;
@@ -165,7 +167,8 @@ impl Postponed {
         }
     }
 
-    /// Takes the last message about the block, as if it had never been held.
+    /// Takes the last message about the block, as if it had never been held. It looks back for the one before it of its
+    /// DataNode, past all that stand between.
     pub fn take_last(&mut self, block: BlockId) -> Option<Message>
         ensures some { IfSome result (λ m. (m.block ≡ block) × (self.old ≡ queued m self.new)) }
         ensures none { IfNone result ((queue block self.old ≡ []) × (self.new ≡ self.old)) }

@@ -1,5 +1,9 @@
 -- The figures of a table after the entry of one block id came, changed or went.
-use Rattle.std.proofs.Common.{◌≡◌, ℕ, ◌+◌, ◌-◌, ◌<◌, ◌≤◌, ◌^◌, Bool, true, false, length, Option, Some, None, is_some, ap, arith}
+use Rattle.std.proofs.Common.{◌≡◌, ℕ, ◌+◌, ◌-◌, ◌<◌, ◌≤◌, ◌^◌, Bool, true, false, length, Option, Some, None, is_some, refl, sym, ap, ◌∙◌, nat_cmp, arith}
+use Rattle.std.specs.BTreeMap.{is_at}
+use Rattle.std.specs.Map.{keys_of, lookup}
+use Rattle.std.specs.List.Sorted.{IsStrictlySortedBy}
+use Rattle.std.specs.FinMap.Entries.{is_sorted}
 use Rattle.std.specs.Option.{option_map}
 use Rattle.std.proofs.lemmas.List.Sums.{count_by-le-length}
 use Rattle.nn_types.specs.declared.replica.Class.{Class}
@@ -7,12 +11,14 @@ use Rattle.nn_types.specs.declared.replica.Class.TheVariants.{Stale, Ahead, Wron
 use Rattle.nn_model.specs.declared.form.BlockRow.{BlockRow}
 use Rattle.nn_model.specs.Counts.{class_of}
 use Rattle.nn_replicas.specs.declared.entry.Cell.{Cell}
+use Rattle.nn_replicas.specs.declared.entry.Told.{Told}
 use Rattle.nn_replicas.specs.declared.figures.Figures.{Figures}
 use Rattle.nn_replicas.specs.Table.{BlockEntry}
-use Rattle.nn_replicas.specs.Entry.{is_closed, is_safe}
-use Rattle.nn_replicas.specs.Figures.{is_class, replicas_of, is_missing, is_missing_of_one, is_under_replicated, is_over_replicated, ordered_cells, figures_of, figures_in, replaced, one_if, Changes, MayReplace}
+use Rattle.nn_replicas.specs.Entry.{is_closed, is_safe, cell_of, cell_told, with_word}
+use Rattle.nn_replicas.specs.Figures.{is_class, replicas_of, is_missing, is_missing_of_one, is_under_replicated, is_over_replicated, ordered_cells, figures_of, figures_in, replaced, one_if, grown, Changes, MayReplace}
 use Rattle.nn_replicas.proofs.Entries.{share, summed, summed_there, summed_put, summed_below}
-use Rattle.nn_replicas.proofs.Tables.{Entries, table, Becomes}
+use Rattle.nn_replicas.proofs.Tables.{Entries, table, set_at, sorted_set, Becomes, written, same_new}
+use Rattle.nn_replicas.proofs.Written.{cells_put}
 
 -- what an entry adds, and nothing where there is none
 abbrev pub added_by : ℕ → Option BlockEntry → Figures
@@ -152,3 +158,29 @@ module _ {es fs : Entries} {b : ℕ} {old : Option BlockEntry} {w : BlockEntry} 
 
   pub may_set : length es < 2 ^ 63 → all.places + is.places < 2 ^ 64 + was.places → MayReplace all was is
   may_set few room = may_replace min es fs old (Some w) (moves h) all was is a i j few room
+
+-- ---- what the table keeps of itself, where an entry was written in its place
+
+module _ (min b : ℕ) (es : Entries) (v w : BlockEntry) (found : Some v ≡ lookup (is_at (nat_cmp b)) es) (sorted : IsStrictlySortedBy nat_cmp (keys_of es))
+    (all : Figures) (a : all ≡ figures_of (table min es)) where
+  abbrev pub Keeps : Figures → Type 0
+  Keeps r = (r ≡ figures_of (table min (set_at b es w))) × IsStrictlySortedBy nat_cmp (keys_of (set_at b es w))
+
+  at : Becomes es (set_at b es w) b (Some v) w
+  at = written b es v w found sorted
+
+  -- the entry is another one, and counted
+  pub keeps_new : (was is r : Figures) → was ≡ figures_in min v → is ≡ figures_in min w → r ≡ replaced all was is → Keeps r
+  keeps_new was is r i j k = (k ∙ figures_set at min all was is a i j, sorted_set b es w sorted)
+
+  -- it is as it was
+  pub keeps_same : (r : Figures) → r ≡ all → w ≡ v → Keeps r
+  keeps_same r k m = (k ∙ a ∙ ap figures_of (sym (same_new at (table min es) min refl m)), sorted_set b es w sorted)
+
+-- a DataNode's cell may be told so much and counted
+pub may_tell : (min b : ℕ) (es : Entries) (v : BlockEntry) (dn : ℕ) (told : Told) → Some v ≡ lookup (is_at (nat_cmp b)) es → IsStrictlySortedBy nat_cmp (keys_of es)
+    → (all : Figures) → all ≡ figures_of (table min es) → length es < 2 ^ 63 → all.places + grown v dn < 2 ^ 64 + length v.cells
+    → is_sorted nat_cmp v.cells ≡ true → MayReplace all (figures_in min v) (figures_in min (with_word v dn told))
+may_tell min b es v dn told found sorted all a few room s =
+    may_set (written b es v (with_word v dn told) found sorted) min all (figures_in min v) (figures_in min (with_word v dn told)) a refl refl few
+    (omega (arith, room, cells_put v dn (cell_told (is_some v.row) told (cell_of v dn)) s))

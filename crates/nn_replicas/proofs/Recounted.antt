@@ -1,12 +1,10 @@
 -- The figures of a table after one cell of one of its entries changed.
-use Rattle.std.proofs.Common.{◌≡◌, ℕ, ◌+◌, ◌-◌, ◌<◌, ◌≤◌, ◌^◌, Bool, true, false, cond, List, [], ◌∷◌, length, count_by, Option, Some, None, is_some, inl, inr, refl, sym, ap, subst, ◌∙◌, arith, nat_cmp}
+use Rattle.std.proofs.Common.{◌≡◌, ℕ, ◌+◌, ◌-◌, ◌≤◌, Bool, true, false, not, cond, [], ◌∷◌, length, Option, Some, None, is_some, inl, inr, refl, sym, ap, subst, ◌∙◌, arith, nat_cmp}
 use Rattle.std.proofs.Math.Bool.{beq}
 use Rattle.std.specs.FinMap.Entries.{find, put, is_sorted}
 use Rattle.std.specs.Ordering.{is_eq}
-use Rattle.std.proofs.lemmas.List.Sums.{count_by-le-length}
 use Rattle.nn_types.specs.declared.replica.Class.{Class}
 use Rattle.nn_types.specs.declared.replica.Class.TheVariants.{Stale, Ahead, Live, WrongLength}
-use Rattle.nn_model.specs.Counts.{is_live}
 use Rattle.nn_model.specs.declared.form.BlockRow.{BlockRow}
 use Rattle.nn_replicas.specs.declared.entry.Cell.{Cell}
 use Rattle.nn_replicas.specs.declared.entry.Difference.{Difference}
@@ -18,7 +16,6 @@ use Rattle.nn_replicas.specs.Entry.{row_of, with_cell, live_cells}
 use Rattle.nn_replicas.specs.Figures.{is_class, class_by_row, share_of, IsChangedShare, IsChange, figures_in, standing_of, replaced, recounted, restood, one_if, Changes, MayReplace, MayRecount, MayRestand}
 use Rattle.nn_replicas.proofs.Entries.{weight, counted, counted_cons, counted_put, summed_there, length_put}
 use Rattle.nn_replicas.proofs.Classed.{live_are}
-use Rattle.nn_replicas.proofs.Told.{found_put}
 use Rattle.nn_replicas.proofs.Written.{Cells, entry}
 
 -- ---- the figures of one block, by the file that holds it
@@ -80,13 +77,9 @@ pub stands_open : (min : ℕ) (file : FileBlock) (xs ys : Cells) → file.closed
 stands_open min file xs ys k =
     ap (λ b. standing_of b file.replication min (live_cells file.block xs)) k ∙ sym (ap (λ b. standing_of b file.replication min (live_cells file.block ys)) k)
 
--- the live replicas before a change, from those behind it
-pub live_before : (file : FileBlock) (xs ys : Cells) (n a b : ℕ) → n ≡ live_cells file.block ys → a ≤ counted (has (Some file) Live) ys
-    → counted (has (Some file) Live) ys + b ≡ counted (has (Some file) Live) xs + a → (a ≤ n) × ((n - a) + b ≡ live_cells file.block xs)
-live_before file xs ys n a b h there moved =
-    let x = live_are file.block xs in
-    let y = live_are file.block ys in
-    (omega (arith, h, there, y), omega (arith, h, there, moved, x, y))
+-- a block of a closed file stands by its live replicas
+stands_closed : (min : ℕ) (file : FileBlock) (xs : Cells) (n : ℕ) → file.closed ≡ true → n ≡ live_cells file.block xs → standing_of true file.replication min n ≡ stands min (Some file) xs
+stands_closed min file xs n k h = ap (λ b. standing_of b file.replication min n) (sym k) ∙ ap (standing_of file.closed file.replication min) h
 
 -- ---- one figure
 
@@ -149,6 +142,17 @@ unchanged min all e is h m =
       places = kept all.places _ m.places.0 z;
     })
     ∙ ap (λ y. replaced all (figures_in min e) (figures_in min y)) (sym h)
+
+-- the block stands as before
+stays : (all : Figures) (was is : Standing) → was ≡ is → MayRestand all was is → all ≡ restood all was is
+stays all was is h m =
+    (λ z. record all {
+      safe = same all.safe _ _ m.safe.0 (ap (λ t. t.safe) h) z;
+      missing = same all.missing _ _ m.missing.0 (ap (λ t. t.missing) h) z;
+      missing_of_one = same all.missing_of_one _ _ m.missing_of_one.0 (ap (λ t. t.missing_of_one) h) z;
+      under_replicated = same all.under_replicated _ _ m.under_replicated.0 (ap (λ t. t.under_replicated) h) z;
+      over_replicated = same all.over_replicated _ _ m.over_replicated.0 (ap (λ t. t.over_replicated) h) z;
+    })
 
 -- the DataNode adds as much as before
 pub recounts_nothing : (all : Figures) (change : Difference) → MayRecount all change → change.was ≡ change.is → all ≡ recounted all change
@@ -220,29 +224,6 @@ module _ (min dn : ℕ) (all : Figures) (e is : BlockEntry) (xs : Cells) (file :
   }
 
   module _ (r : Figures) (counts : r ≡ recounted all change) where
-    -- where the block stands as before
-    pub recounts : stands min file e.cells ≡ stands min file after → r ≡ replaced all (figures_in min e) (figures_in min is)
-    recounts k =
-        counts
-        ∙ (λ z. record {
-          blocks = kept all.blocks _ at.blocks.0 z;
-          total = kept all.total _ at.total.0 z;
-          safe = same all.safe _ _ at.safe.0 (ap (λ t. t.safe) k) z;
-          missing = same all.missing _ _ at.missing.0 (ap (λ t. t.missing) k) z;
-          missing_of_one = same all.missing_of_one _ _ at.missing_of_one.0 (ap (λ t. t.missing_of_one) k) z;
-          under_replicated = same all.under_replicated _ _ at.under_replicated.0 (ap (λ t. t.under_replicated) k) z;
-          over_replicated = same all.over_replicated _ _ at.over_replicated.0 (ap (λ t. t.over_replicated) k) z;
-          stale = part_is dn e.cells c s (has file Stale) all.stale _ _ at.stale (was_class Stale) (is_class_now Stale) z;
-          ahead = part_is dn e.cells c s (has file Ahead) all.ahead _ _ at.ahead (was_class Ahead) (is_class_now Ahead) z;
-          wrong_length = part_is dn e.cells c s (has file WrongLength) all.wrong_length _ _ at.wrong_length (was_class WrongLength) (is_class_now WrongLength) z;
-          orders = part_is dn e.cells c s (λ y. y.ordered) all.orders _ _ at.orders was_order (ap (λ q. one_if q.ordered) is_part) z;
-          places = places_are z;
-        })
-        ∙ back
-      where
-        places_are : (all.places - one_if change.was.placed) + one_if change.is.placed ≡ (all.places - length e.cells) + length after
-        places_are = omega (arith, length_put dn c e.cells s, place_there dn e.cells, was_place, is_place, at.places.0)
-
     module _ (stood stand : Standing) (so : stood ≡ stands min file e.cells) (st : stand ≡ stands min file after) where
       pub may_restand : MayRestand r stood stand
       may_restand =
@@ -276,12 +257,13 @@ module _ (min dn : ℕ) (all : Figures) (e is : BlockEntry) (xs : Cells) (file :
           places_are : (all.places - one_if change.was.placed) + one_if change.is.placed ≡ (all.places - length e.cells) + length after
           places_are = omega (arith, length_put dn c e.cells s, place_there dn e.cells, was_place, is_place, at.places.0)
 
+    -- where the block stands as before
+    pub recounts : stands min file e.cells ≡ stands min file after → r ≡ replaced all (figures_in min e) (figures_in min is)
+    recounts k = stays r (stands min file e.cells) (stands min file after) k (may_restand _ _ refl refl) ∙ restands _ _ refl refl
+
   -- the live replicas before the change, and behind it
   pub live_moved : counted (has file Live) after + one_if (is_class Live change.was.class) ≡ counted (has file Live) e.cells + one_if (is_class Live change.is.class)
   live_moved = omega (arith, counted_put (has file Live) dn c e.cells s, was_class Live, is_class_now Live)
-
-  pub live_there : one_if (is_class Live change.is.class) ≤ counted (has file Live) after
-  live_there = (let most = summed_there (λ z. cond (has file Live z) 1 0) dn after in let k = ap (weight (has file Live)) (found_put dn c e.cells) in omega (arith, most, k, is_class_now Live))
 
   -- where no live replica came or went
   pub stands_same : is_class Live change.was.class ≡ is_class Live change.is.class → stands min file e.cells ≡ stands min file after
@@ -298,6 +280,51 @@ same_if false false h = refl
 pub changed_of : (e : BlockEntry) (dn : ℕ) (f : BlockEntry) (change : Difference) → IsChange e dn f (Some change) → (c : Cell) × (f ≡ with_cell e dn c) × IsChangedShare e.row (find nat_cmp dn e.cells) c (Some change)
 changed_of e dn f change (inl h) = let no = h.1 in cc
 changed_of e dn f change (inr h) = h
+
+pub other_if : (a b t : Bool) → beq a b ≡ false → b ≡ t → a ≡ not t
+other_if true true t h k = cc
+other_if true false t h k = ap not k
+other_if false true t h k = ap not k
+other_if false false t h k = cc
+
+-- a live replica of a block of a closed file came or went
+module _ (min dn : ℕ) (all : Figures) (e is : BlockEntry) (xs : Cells) (file : FileBlock) (v : entry (Some file) xs ≡ is) (c : Cell) (h : is ≡ with_cell e dn c)
+    (s : is_sorted nat_cmp e.cells ≡ true) (m : MayReplace all (figures_in min e) (figures_in min is))
+    (change : Difference) (part : IsChangedShare e.row (find nat_cmp dn e.cells) c (Some change))
+    (r : Figures) (counts : r ≡ recounted all change) (closed : file.closed ≡ true) (n : ℕ) (live : n ≡ live_cells file.block xs) where
+  abbrev pub Stood : ℕ → ℕ → Type 0
+  Stood a b =
+      MayRestand r (standing_of true file.replication min a) (standing_of true file.replication min b)
+      × (restood r (standing_of true file.replication min a) (standing_of true file.replication min b) ≡ replaced all (figures_in min e) (figures_in min is))
+
+  xs_after : xs ≡ after min dn all e is xs (Some file) v c h s m change part
+  xs_after = cells_so min dn all e is xs (Some file) v c h s m change part
+
+  stood : (a b : ℕ) → a ≡ live_cells file.block e.cells → b ≡ n → Stood a b
+  stood a b i j =
+      let was = stands_closed min file e.cells a closed i in
+      let now = stands_closed min file (after min dn all e is xs (Some file) v c h s m change part) b closed (j ∙ live ∙ ap (live_cells file.block) xs_after) in (
+        may_restand min dn all e is xs (Some file) v c h s m change part r counts _ _ was now,
+        restands min dn all e is xs (Some file) v c h s m change part r counts _ _ was now,
+      )
+
+  counted_now : n ≡ counted (has (Some file) Live) (after min dn all e is xs (Some file) v c h s m change part)
+  counted_now = live ∙ ap (live_cells file.block) xs_after ∙ sym (live_are file.block (after min dn all e is xs (Some file) v c h s m change part))
+
+  moved_by : n + one_if (is_class Live change.was.class) ≡ live_cells file.block e.cells + one_if (is_class Live change.is.class)
+  moved_by = (let x = live_are file.block e.cells in omega (arith, counted_now, live_moved min dn all e is xs (Some file) v c h s m change part, x))
+
+  pub came : is_class Live change.was.class ≡ false → is_class Live change.is.class ≡ true → (1 ≤ n) × Stood (n - 1) n
+  came l k =
+      let lived = ap one_if l in
+      let lives = ap one_if k in
+      (omega (arith, moved_by, lived, lives), stood (n - 1) n (omega (arith, moved_by, lived, lives)) refl)
+
+  pub went : is_class Live change.was.class ≡ true → is_class Live change.is.class ≡ false → Stood (n + 1) ((n + 1) - 1)
+  went l k =
+      let lived = ap one_if l in
+      let lives = ap one_if k in
+      stood (n + 1) ((n + 1) - 1) (omega (arith, moved_by, lived, lives)) (omega arith)
 
 -- none is told: the DataNode adds as much as before
 pub none_told : (min dn : ℕ) (all : Figures) (e is : BlockEntry) (xs : Cells) (file : Option FileBlock) → entry file xs ≡ is → is_sorted nat_cmp e.cells ≡ true → IsChange e dn is None

@@ -31,11 +31,12 @@ pub record Becomes (es fs : Entries) (b : ℕ) (old : Option BlockEntry) (w : Bl
   pub found : find nat_cmp b es ≡ old
   pub put : fs ≡ put nat_cmp b w es
 
-pub written : (es fs : Entries) (b : ℕ) (v w : BlockEntry) → Some v ≡ lookup (is_at (nat_cmp b)) es → IsStrictlySortedBy nat_cmp (keys_of es) → fs ≡ set_value (is_at (nat_cmp b)) es w → Becomes es fs b (Some v) w
-written es fs b v w h s f =
+-- an entry was written where it stands
+pub written : (b : ℕ) (es : Entries) (v w : BlockEntry) → Some v ≡ lookup (is_at (nat_cmp b)) es → IsStrictlySortedBy nat_cmp (keys_of es) → Becomes es (set_at b es w) b (Some v) w
+written b es v w h s =
     let k = sorted_of es s in
     let g = sym (lookup_is_find b es) ∙ sym h in
-    record { sorted = k; found = g; put = f ∙ set_is_put b v w es g k }
+    record { sorted = k; found = g; put = set_is_put b v w es g k }
 
 pub added : (es fs : Entries) (b : ℕ) (w : BlockEntry) → None ≡ lookup (is_at (nat_cmp b)) es → IsStrictlySortedBy nat_cmp (keys_of es) → fs ≡ insert_entry nat_cmp es b w → Becomes es fs b None w
 added es fs b w h s f = record { sorted = sorted_of es s; found = sym (lookup_is_find b es) ∙ sym h; put = f ∙ insert_is_put b w es }

@@ -4,10 +4,10 @@ use Rattle.std.specs.Prelude.{unwrap_or}
 use Rattle.std.specs.FinMap.Entries.{find, is_sorted}
 use Rattle.nn_types.specs.declared.replica.Replica.{Replica}
 use Rattle.nn_replicas.specs.declared.entry.Cell.{Cell}
-use Rattle.nn_replicas.specs.declared.entry.Told.TheVariants.{Room, HasNone}
+use Rattle.nn_replicas.specs.declared.entry.Told.TheVariants.{Room}
 use Rattle.nn_replicas.specs.Table.{BlockEntry}
-use Rattle.nn_replicas.specs.Entry.{no_cell, cell_erased, cell_of, has_cell, with_cell, with_place, with_erased, with_told, with_word, told_by}
-use Rattle.nn_replicas.specs.Calls.{reaches, with_due}
+use Rattle.nn_replicas.specs.Entry.{no_cell, cell_erased, cell_of, with_cell, with_place, with_erased, with_told, with_word, told_by}
+use Rattle.nn_replicas.specs.Calls.{reaches, told_if_due, with_due}
 use Rattle.nn_replicas.specs.Entry.{stamp_in}
 use Rattle.nn_replicas.proofs.Entries.{put_same}
 use Rattle.nn_replicas.proofs.Told.{put_twice, found_put}
@@ -43,8 +43,16 @@ told_word e dn None = cases (find nat_cmp dn e.cells) refl
         let at : with_erased e dn ≡ erased (cell_of e dn) = ap (λ o. cond (is_some o) (erased (cell_of e dn)) e) h in
         sym at ∙ sym (ap (λ o. with_erased (cond (is_some o) e (with_cell e dn no_cell)) dn) h)
 
-pub due_word : (e : BlockEntry) (dn stamp : ℕ) (r : Option Replica) → reaches (stamp_in e.row) stamp ≡ true → with_word e dn (told_by r) ≡ with_due e dn stamp r
+due_word : (e : BlockEntry) (dn stamp : ℕ) (r : Option Replica) → reaches (stamp_in e.row) stamp ≡ true → with_word e dn (told_by r) ≡ with_due e dn stamp r
 due_word e dn stamp r h = told_word e dn r ∙ sym (ap (λ b. cond b (with_told e dn r) (with_place e dn)) h)
 
-pub early_word : (e : BlockEntry) (dn stamp : ℕ) (r : Option Replica) → is_sorted nat_cmp e.cells ≡ true → reaches (stamp_in e.row) stamp ≡ false → with_word e dn Room ≡ with_due e dn stamp r
+early_word : (e : BlockEntry) (dn stamp : ℕ) (r : Option Replica) → is_sorted nat_cmp e.cells ≡ true → reaches (stamp_in e.row) stamp ≡ false → with_word e dn Room ≡ with_due e dn stamp r
 early_word e dn stamp r s h = room_word e dn s ∙ sym (ap (λ b. cond b (with_told e dn r) (with_place e dn)) h)
+
+-- what is said where it is due
+pub word_if_due : (e : BlockEntry) (dn stamp : ℕ) (r : Option Replica) → is_sorted nat_cmp e.cells ≡ true → with_word e dn (told_if_due e.row stamp r) ≡ with_due e dn stamp r
+word_if_due e dn stamp r s = cases (reaches (stamp_in e.row) stamp) refl
+  where
+    cases : (b : Bool) → reaches (stamp_in e.row) stamp ≡ b → with_word e dn (cond b (told_by r) Room) ≡ with_due e dn stamp r
+    cases true h = due_word e dn stamp r h
+    cases false h = early_word e dn stamp r s h

@@ -13,7 +13,7 @@ use Rattle.nn_replicas.specs.declared.entry.Difference.{Difference}
 use Rattle.nn_replicas.specs.declared.entry.Share.{Share}
 use Rattle.nn_replicas.specs.declared.entry.FileBlock.{FileBlock}
 use Rattle.nn_replicas.specs.Table.{BlockEntry}
-use Rattle.nn_replicas.specs.Entry.{row_of, replication_of, is_ordered, no_cell, cell_erased, cell_retired, cell_of, has_cell, with_cell, with_place, with_erased}
+use Rattle.nn_replicas.specs.Entry.{row_of, replication_of, is_ordered, no_cell, cell_erased, cell_retired, cell_of, has_cell, with_cell, with_erased}
 use Rattle.nn_replicas.specs.Figures.{one_if, grown, no_share, share_of, IsChangedShare, IsChange}
 use Rattle.nn_replicas.specs.Scan.{place, is_here}
 use Rattle.nn_replicas.proofs.Entries.{put_sorted, length_put}
@@ -105,12 +105,6 @@ there e file xs dn v h = ap (λ y. has_cell y dn) (sym v) ∙ ap is_some (find_h
 pub not_there : (e : BlockEntry) (file : Option FileBlock) (xs : Cells) (dn : ℕ) → entry file xs ≡ e → is_sorted nat_cmp xs ≡ true → is_here dn xs ≡ false → has_cell e dn ≡ false
 not_there e file xs dn v s h = ap (λ y. has_cell y dn) (sym v) ∙ ap is_some (find_gone dn xs s h)
 
-pub placed_there : (e : BlockEntry) (dn : ℕ) → has_cell e dn ≡ true → e ≡ with_place e dn
-placed_there e dn h = ap (λ b. cond b e (with_cell e dn no_cell)) (sym h)
-
-pub placed_new : (e : BlockEntry) (dn : ℕ) → has_cell e dn ≡ false → with_cell e dn no_cell ≡ with_place e dn
-placed_new e dn h = ap (λ b. cond b e (with_cell e dn no_cell)) (sym h)
-
 pub erased_there : (e : BlockEntry) (dn : ℕ) → has_cell e dn ≡ true → with_cell e dn (cell_erased (is_some e.row) (cell_of e dn)) ≡ with_erased e dn
 erased_there e dn h = ap (λ b. cond b (with_cell e dn (cell_erased (is_some e.row) (cell_of e dn))) e) (sym h)
 
@@ -133,20 +127,6 @@ cells_put e dn c s = cases (has_cell e dn) refl
 
 pub cells_there : (e : BlockEntry) (dn : ℕ) → has_cell e dn ≡ true → grown e dn ≡ length e.cells
 cells_there e dn h = (let k = ap (λ x. one_if (not x)) h in omega (arith, k))
-
-pub cells_placed : (e : BlockEntry) (dn : ℕ) → is_sorted nat_cmp e.cells ≡ true → length (with_place e dn).cells ≡ grown e dn
-cells_placed e dn s = cases (has_cell e dn) refl
-  where
-    cases : (b : Bool) → has_cell e dn ≡ b → length (cond b e (with_cell e dn no_cell)).cells ≡ grown e dn
-    cases true h = sym (cells_there e dn h)
-    cases false h = cells_put e dn no_cell s
-
-pub cells_erased : (e : BlockEntry) (dn : ℕ) → is_sorted nat_cmp e.cells ≡ true → length (with_erased e dn).cells ≡ length e.cells
-cells_erased e dn s = cases (has_cell e dn) refl
-  where
-    cases : (b : Bool) → has_cell e dn ≡ b → length (cond b (with_cell e dn (cell_erased (is_some e.row) (cell_of e dn))) e).cells ≡ length e.cells
-    cases true h = cells_put e dn (cell_erased (is_some e.row) (cell_of e dn)) s ∙ cells_there e dn h
-    cases false h = refl
 
 -- ---- one more cell is retired
 

@@ -12,8 +12,10 @@ use Rattle.nn_types.specs.declared.report.Kind.TheVariants.{Receiving, Received,
 use Rattle.nn_types.specs.declared.replica.Replica.{Replica}
 use Rattle.nn_model.specs.declared.form.BlockRow.{BlockRow}
 use Rattle.nn_replicas.specs.declared.entry.Cell.{Cell}
+use Rattle.nn_replicas.specs.declared.entry.Told.{Told}
+use Rattle.nn_replicas.specs.declared.entry.Told.TheVariants.{Room}
 use Rattle.nn_replicas.specs.Table.{BlockEntry, Replicas}
-use Rattle.nn_replicas.specs.Entry.{is_ordered, no_entry, entry_with_row, with_place, with_put, with_erased, with_told, retired, stamp_in, replication_in, rows_in, replicas_in, ordered_in, orders_in}
+use Rattle.nn_replicas.specs.Entry.{is_ordered, no_entry, entry_with_row, with_place, with_put, with_erased, with_told, retired, stamp_in, told_by, replication_in, rows_in, replicas_in, ordered_in, orders_in}
 use Rattle.nn_replicas.specs.Entry.{is_closed, is_safe, is_idle}
 
 -- ---- What it answers.
@@ -140,6 +142,10 @@ replica_erased t dn id = changed_at t id (λ e. with_erased e dn)
 abbrev pub pair_told : Replicas → ℕ → ℕ → Option Replica → Replicas
 pair_told t dn id (Some r) = replica_put t dn id r
 pair_told t dn id None = replica_erased t dn id
+
+-- what is said of a DataNode that has this replica, or none: that much where the row has at least this stamp
+abbrev pub told_if_due : Option BlockRow → ℕ → Option Replica → Told
+told_if_due row stamp replica = if reaches (stamp_in row) stamp then told_by replica else Room
 
 -- of an entry: there is room for what the DataNode says of the block, and it is told where the row has at least this stamp
 abbrev pub with_due : BlockEntry → ℕ → ℕ → Option Replica → BlockEntry

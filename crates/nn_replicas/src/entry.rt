@@ -9,8 +9,8 @@ ghost use Rattle.std.specs.Option.{option_map};
 ghost use Rattle.nn_model.specs.Counts.{class_of};
 ghost use Rattle.nn_replicas.specs.Scan.{place, is_here};
 ghost use Rattle.nn_replicas.specs.Table.{BlockEntry};
-ghost use Rattle.nn_replicas.specs.Entry.{replicas_in, orders_in, is_ordered, ordered_in, cell_retired, no_entry, is_idle, is_idle_cell, has_cell, entry_with_row, with_place, with_put, with_erased, with_word, told_by, cell_told, row_of, retired, stamp_in, live_cells};
-ghost use Rattle.nn_replicas.specs.Calls.{reaches, with_due};
+ghost use Rattle.nn_replicas.specs.Entry.{replicas_in, orders_in, is_ordered, ordered_in, cell_retired, no_entry, is_idle, is_idle_cell, has_cell, entry_with_row, with_word, told_by, cell_told, row_of, retired, stamp_in, live_cells};
+ghost use Rattle.nn_replicas.specs.Calls.{reaches, told_if_due};
 ghost use Rattle.nn_replicas.specs.Figures.{classes_in, no_classes, with_class, is_class, no_share, share_of, IsChange, IsChangedShare, HaveRoom, figures_in, standing_of, replaced, MayReplace, too_few, one_if, grown};
 
 use crate::classes::class;
@@ -99,6 +99,17 @@ impl Entry {
         }
     }
 
+    // Of a block that no file holds, of which one DataNode says so much.
+    pub fn told(alloc: Global, dn: u16, told: Told) -> Result<Entry, AllocError>
+        ensures { IfOk result (λ e. e ≡ with_word no_entry dn told) }
+    {
+        let mut slot = Slot::new(dn);
+        slot.write(false, told);
+        let mut cells = SmallVec::new(alloc);
+        cells.push(slot)?;
+        Ok(Entry { file: None, cells })
+    }
+
     pub fn set_row(&mut self, row: BlockRow, replication: u16)
         ensures { self.new ≡ entry_with_row self.old row replication }
     {
@@ -155,7 +166,7 @@ impl Entry {
 
     // The figures of a table behind a change of one cell of this entry of it. Where no live replica came or went it looks at no
     // other cell.
-    pub fn recount(&self, min: u16, figures: &mut Figures, change: Option<Difference>)
+    fn recount(&self, min: u16, figures: &mut Figures, change: Option<Difference>)
         requires { (e : BlockEntry) × (dn : ℕ) × IsChange e dn self.now change × IsTrue (is_sorted nat_cmp e.cells)
             × MayReplace figures.old (figures_in min e) (figures_in min self.now) }
         ensures { (e : BlockEntry) → (dn : ℕ) → IsChange e dn self.now change → IsTrue (is_sorted nat_cmp e.cells)
@@ -178,8 +189,11 @@ impl Entry {
             return;
         }
         let live = live_in(self.cells.as_slice(), &file.block);
-        let stood = Standing::of(&file, min, live - u64::from(lives) + u64::from(lived));
-        figures.restand(&stood, &Standing::of(&file, min, live));
+        if lives {
+            figures.live_came(file.replication, min, live);
+            return;
+        }
+        figures.live_went(file.replication, min, live + 1);
     }
 
     // How many live replicas the block has, where a closed file holds it and these do not make it safe.
@@ -232,66 +246,49 @@ impl Entry {
         }))
     }
 
-    // Makes room for the DataNode, which stays.
-    pub fn place(&mut self, dn: u16) -> Result<Option<Difference>, AllocError>
-        ensures ok { OnOk result (self.new ≡ with_place self.old dn) }
-        ensures change { IfOk result (λ change. IsChange self.old dn self.new change) }
-        ensures places { OnOk result (length self.new.cells ≡ grown self.old dn) }
-        ensures order { IsTrue (is_sorted nat_cmp self.old.cells) }
-        ensures err { OnErr result (self.new ≡ self.old) }
-        ensures room { is_some (find nat_cmp dn self.old.cells) ≡ true → IsOk result }
-    {
-        self.write(dn, Told::Room)
-    }
-
-    // Sets a replica where the block has a row, an order where it has none.
-    pub fn put(&mut self, dn: u16, replica: Replica) -> Result<Option<Difference>, AllocError>
-        ensures ok { OnOk result (self.new ≡ with_put self.old dn replica) }
-        ensures change { IfOk result (λ change. IsChange self.old dn self.new change) }
-        ensures places { OnOk result (length self.new.cells ≡ grown self.old dn) }
-        ensures order { IsTrue (is_sorted nat_cmp self.old.cells) }
-        ensures err { OnErr result (self.new ≡ self.old) }
-        ensures room { is_some (find nat_cmp dn self.old.cells) ≡ true → IsOk result }
-    {
-        self.write(dn, Told::Has(replica))
-    }
-
-    // Takes away the replica where the block has a row, the order where it has none.
-    pub fn erase(&mut self, dn: u16) -> Option<Difference>
-        ensures erased { self.new ≡ with_erased self.old dn }
-        ensures change { IsChange self.old dn self.new result }
-        ensures places { length self.new.cells ≡ length self.old.cells }
-        ensures order { IsTrue (is_sorted nat_cmp self.old.cells) }
-    {
-        let file = self.file;
-        let place = place_of(self.cells.as_slice(), dn);
-        if has_cell(self.cells.as_slice(), place, dn) {
-            let Some(slot) = self.cells.get_mut(place) else {
-                unreachable!()
-            };
-            return write_slot(slot, &file, Told::HasNone);
-        }
-        None
-    }
-
-    // As `place`, and where the row has at least this generation stamp as `put` of the replica, or `erase` where there is none.
-    pub fn tell_due(
+    // Writes what is said into the DataNode's cell, for which there is room from now on, and what that changes into the figures of
+    // the table.
+    pub fn tell(
         &mut self,
         dn: u16,
-        stamp: GenerationStamp,
-        replica: Option<Replica>,
-    ) -> Result<Option<Difference>, AllocError>
-        ensures ok { OnOk result (self.new ≡ with_due self.old dn stamp replica) }
-        ensures change { IfOk result (λ change. IsChange self.old dn self.new change) }
-        ensures places { OnOk result (length self.new.cells ≡ grown self.old dn) }
+        told: Told,
+        min: u16,
+        figures: &mut Figures,
+    ) -> Result<(), AllocError>
+        requires { IsTrue (is_sorted nat_cmp self.old.cells)
+            → MayReplace figures.old (figures_in min self.old) (figures_in min (with_word self.old dn told)) }
+        ensures ok { OnOk result (self.new ≡ with_word self.old dn told) }
+        ensures figures { OnOk result (figures.new ≡ replaced figures.old (figures_in min self.old) (figures_in min self.new)) }
         ensures order { IsTrue (is_sorted nat_cmp self.old.cells) }
         ensures err { OnErr result (self.new ≡ self.old) }
+        ensures uncounted { OnErr result (figures.new ≡ figures.old) }
         ensures room { is_some (find nat_cmp dn self.old.cells) ≡ true → IsOk result }
     {
+        let change = self.write(dn, told)?;
+        self.recount(min, figures, change);
+        Ok(())
+    }
+
+    // What is said of a DataNode that has this replica, or none: so much where the row has at least this generation stamp, and
+    // that something will be said where it has not.
+    pub fn told_due(&self, stamp: GenerationStamp, replica: Option<Replica>) -> Told
+        ensures { result ≡ told_if_due self.now.row stamp replica }
+    {
         if !reaches(&self.stamp(), stamp) {
-            return self.write(dn, Told::Room);
+            return Told::Room;
         }
-        self.write(dn, told_by(replica))
+        told_by(replica)
+    }
+
+    // Whether a file of this replication holds the block with this row.
+    pub fn is_held_so(&self, row: &BlockRow, replication: u16) -> bool
+        ensures so { IsTrue result → entry_with_row self.now row.now replication ≡ self.now }
+        ensures other { entry_with_row self.now row.now replication ≡ self.now → IsTrue result }
+    {
+        let Some(file) = self.file else {
+            return false;
+        };
+        file.block == row.block && file.closed == row.closed && file.replication == replication
     }
 
     // The generation stamp of the row.

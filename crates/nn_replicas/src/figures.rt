@@ -1,8 +1,8 @@
 //! What an operator reads of a table.
-ghost use Rattle.std.specs.Prelude.{◌≡◌, ◌+◌, ◌-◌};
-ghost use Rattle.nn_replicas.specs.Figures.{no_figures, replaced, recounted, restood, Changes, MayRecount, MayReplace, MayRestand};
+ghost use Rattle.std.specs.Prelude.{◌≡◌, ◌≤◌, ◌<◌, ◌+◌, ◌-◌, ◌^◌, true};
+ghost use Rattle.nn_replicas.specs.Figures.{no_figures, replaced, recounted, restood, standing_of, one_if, Changes, MayRecount, MayReplace, MayRestand};
 
-use crate::entry::{Difference, Standing};
+use crate::entry::Difference;
 use nn_types::Class;
 
 /// How many blocks, replicas and orders of each kind a table has.
@@ -56,32 +56,30 @@ impl Figures {
     }
 
     // The same once a block that added `was` adds `is`.
-    pub(crate) fn replaced(&self, was: &Figures, is: &Figures) -> Figures
-        requires { MayReplace self.now was.now is.now }
-        ensures { result ≡ replaced self.now was.now is.now }
+    pub(crate) fn replace(&mut self, was: &Figures, is: &Figures)
+        requires { MayReplace self.old was.now is.now }
+        ensures { self.new ≡ replaced self.old was.now is.now }
     {
-        Figures {
-            blocks: changed(self.blocks, was.blocks, is.blocks),
-            total: changed(self.total, was.total, is.total),
-            safe: changed(self.safe, was.safe, is.safe),
-            missing: changed(self.missing, was.missing, is.missing),
-            missing_of_one: changed(self.missing_of_one, was.missing_of_one, is.missing_of_one),
-            under_replicated: changed(
-                self.under_replicated,
-                was.under_replicated,
-                is.under_replicated,
-            ),
-            over_replicated: changed(
-                self.over_replicated,
-                was.over_replicated,
-                is.over_replicated,
-            ),
-            stale: changed(self.stale, was.stale, is.stale),
-            ahead: changed(self.ahead, was.ahead, is.ahead),
-            wrong_length: changed(self.wrong_length, was.wrong_length, is.wrong_length),
-            orders: changed(self.orders, was.orders, is.orders),
-            places: changed(self.places, was.places, is.places),
-        }
+        self.blocks = changed(self.blocks, was.blocks, is.blocks);
+        self.total = changed(self.total, was.total, is.total);
+        self.safe = changed(self.safe, was.safe, is.safe);
+        self.missing = changed(self.missing, was.missing, is.missing);
+        self.missing_of_one = changed(self.missing_of_one, was.missing_of_one, is.missing_of_one);
+        self.under_replicated = changed(
+            self.under_replicated,
+            was.under_replicated,
+            is.under_replicated,
+        );
+        self.over_replicated = changed(
+            self.over_replicated,
+            was.over_replicated,
+            is.over_replicated,
+        );
+        self.stale = changed(self.stale, was.stale, is.stale);
+        self.ahead = changed(self.ahead, was.ahead, is.ahead);
+        self.wrong_length = changed(self.wrong_length, was.wrong_length, is.wrong_length);
+        self.orders = changed(self.orders, was.orders, is.orders);
+        self.places = changed(self.places, was.places, is.places);
     }
 
     // The places, the orders and the replicas that are not live, once a DataNode adds what it adds now.
@@ -116,24 +114,58 @@ impl Figures {
         }
     }
 
-    // The same once a block that stood so stands so now.
-    pub(crate) fn restand(&mut self, was: &Standing, is: &Standing)
-        requires { MayRestand self.old was.now is.now }
-        ensures { self.new ≡ restood self.old was.now is.now }
+    // The same once a block of a closed file has one live replica more, which makes so many.
+    pub(crate) fn live_came(&mut self, replication: u16, min: u16, live: u64)
+        requires one { 1 ≤ live }
+        requires may { MayRestand self.old (standing_of true replication min (live - 1)) (standing_of true replication min live) }
+        ensures { self.new ≡ restood self.old (standing_of true replication min (live - 1)) (standing_of true replication min live) }
     {
-        self.safe = changed(self.safe, was.safe, is.safe);
-        self.missing = changed(self.missing, was.missing, is.missing);
-        self.missing_of_one = changed(self.missing_of_one, was.missing_of_one, is.missing_of_one);
-        self.under_replicated = changed(
-            self.under_replicated,
-            was.under_replicated,
-            is.under_replicated,
-        );
-        self.over_replicated = changed(
-            self.over_replicated,
-            was.over_replicated,
-            is.over_replicated,
-        );
+        let replication = u64::from(replication);
+        count_if(&mut self.safe, live == u64::from(min));
+        forget_if(&mut self.under_replicated, live == replication);
+        count_if(&mut self.over_replicated, live == replication + 1);
+        if live != 1 {
+            return;
+        }
+        self.missing -= 1;
+        forget_if(&mut self.missing_of_one, replication == 1);
+    }
+
+    // The same once it has one live replica fewer, and had so many.
+    pub(crate) fn live_went(&mut self, replication: u16, min: u16, lived: u64)
+        requires one { 1 ≤ lived }
+        requires may { MayRestand self.old (standing_of true replication min lived) (standing_of true replication min (lived - 1)) }
+        ensures { self.new ≡ restood self.old (standing_of true replication min lived) (standing_of true replication min (lived - 1)) }
+    {
+        let replication = u64::from(replication);
+        forget_if(&mut self.safe, lived == u64::from(min));
+        count_if(&mut self.under_replicated, lived == replication);
+        forget_if(&mut self.over_replicated, lived == replication + 1);
+        if lived != 1 {
+            return;
+        }
+        self.missing += 1;
+        count_if(&mut self.missing_of_one, replication == 1);
+    }
+}
+
+// One more is counted, if there is one.
+fn count_if(all: &mut u64, more: bool)
+    requires { all.old + one_if more < 2 ^ 64 }
+    ensures { all.new ≡ all.old + one_if more }
+{
+    if more {
+        *all += 1;
+    }
+}
+
+// One is counted no more, if it was.
+fn forget_if(all: &mut u64, fewer: bool)
+    requires { one_if fewer ≤ all.old }
+    ensures { all.new ≡ all.old - one_if fewer }
+{
+    if fewer {
+        *all -= 1;
     }
 }
 

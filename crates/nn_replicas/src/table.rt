@@ -7,7 +7,7 @@ ghost use Rattle.nn_replicas.specs.Calls.{table_rows, replicas_at, orders_at, or
 ghost use Rattle.nn_replicas.specs.Entry.{has_cell};
 ghost use Rattle.nn_replicas.specs.Figures.{figures_of, unsafe_from, grown};
 
-use crate::entry::Entry;
+use crate::entry::{Entry, Told};
 use crate::figures::Figures;
 use crate::orders_of::OrdersOf;
 use crate::replicas_of::ReplicasOf;
@@ -100,10 +100,13 @@ impl Replicas {
             self.add(block.id, entry)?;
             return Ok(());
         };
+        if entry.is_held_so(&row, replication) {
+            return Ok(());
+        }
         let was = entry.figures(self.min);
         entry.set_row(row, replication);
         let is = entry.figures(self.min);
-        self.figures = self.figures.replaced(&was, &is);
+        self.figures.replace(&was, &is);
         Ok(())
     }
 
@@ -121,7 +124,7 @@ impl Replicas {
         }
         let is = entry.figures(self.min);
         self.entries.insert(block, entry)?;
-        self.figures = self.figures.replaced(&Figures::none(), &is);
+        self.figures.replace(&Figures::none(), &is);
         Ok(())
     }
 
@@ -135,16 +138,14 @@ impl Replicas {
         // Recalls to the prover that fewer blocks than 2^63 fit in memory, so the figures do not overflow.
         let _recalled = self.entries.len();
         let Some(entry) = self.entries.get_mut(&block) else {
-            let mut entry = Entry::new(self.alloc);
-            entry.place(dn)?;
+            let entry = Entry::told(self.alloc, dn, Told::Room)?;
             self.add(block, entry)?;
             return Ok(());
         };
         if !has_room(&self.figures, entry, dn) {
             return Err(AllocError);
         }
-        let change = entry.place(dn)?;
-        entry.recount(self.min, &mut self.figures, change);
+        entry.tell(dn, Told::Room, self.min, &mut self.figures)?;
         Ok(())
     }
 
@@ -161,16 +162,14 @@ impl Replicas {
         // Recalls to the prover that fewer blocks than 2^63 fit in memory, so the figures do not overflow.
         let _recalled = self.entries.len();
         let Some(entry) = self.entries.get_mut(&block) else {
-            let mut entry = Entry::new(self.alloc);
-            entry.put(dn, replica)?;
+            let entry = Entry::told(self.alloc, dn, Told::Has(replica))?;
             self.add(block, entry)?;
             return Ok(());
         };
         if !has_room(&self.figures, entry, dn) {
             return Err(AllocError);
         }
-        let change = entry.put(dn, replica)?;
-        entry.recount(self.min, &mut self.figures, change);
+        entry.tell(dn, Told::Has(replica), self.min, &mut self.figures)?;
         Ok(())
     }
 
@@ -183,8 +182,11 @@ impl Replicas {
         let Some(entry) = self.entries.get_mut(&block) else {
             return;
         };
-        let change = entry.erase(dn);
-        entry.recount(self.min, &mut self.figures, change);
+        if entry.has_cell(dn) {
+            let Ok(()) = entry.tell(dn, Told::HasNone, self.min, &mut self.figures) else {
+                unreachable!()
+            };
+        }
     }
 
     /// Makes room for what a DataNode says of a block, as `place` does. Where a file holds the block with at least this
@@ -208,8 +210,7 @@ impl Replicas {
         // Recalls to the prover that fewer blocks than 2^63 fit in memory, so the figures do not overflow.
         let _recalled = self.entries.len();
         let Some(entry) = self.entries.get_mut(&block) else {
-            let mut entry = Entry::new(self.alloc);
-            entry.place(dn)?;
+            let entry = Entry::told(self.alloc, dn, Told::Room)?;
             self.add(block, entry)?;
             return Ok(None);
         };
@@ -217,8 +218,8 @@ impl Replicas {
             return Err(AllocError);
         }
         let named = entry.stamp();
-        let change = entry.tell_due(dn, stamp, replica)?;
-        entry.recount(self.min, &mut self.figures, change);
+        let told = entry.told_due(stamp, replica);
+        entry.tell(dn, told, self.min, &mut self.figures)?;
         Ok(named)
     }
 
@@ -234,7 +235,7 @@ impl Replicas {
         let was = entry.figures(self.min);
         entry.retire();
         let is = entry.figures(self.min);
-        self.figures = self.figures.replaced(&was, &is);
+        self.figures.replace(&was, &is);
     }
 
     /// Gives back the room of a block that has no row, no replica and no order. Of any other block nothing changes. It is
@@ -255,7 +256,7 @@ impl Replicas {
         }
         let was = entry.figures(self.min);
         let _room = self.entries.remove(&block);
-        self.figures = self.figures.replaced(&was, &Figures::none());
+        self.figures.replace(&was, &Figures::none());
     }
 
     /// Whether a DataNode is ordered to delete what it has of a block.

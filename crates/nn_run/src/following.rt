@@ -1,5 +1,5 @@
 //! A scenario is followed while its lines come: each is checked and followed at once, and none is kept.
-ghost use Rattle.std.specs.Prelude.{◌≡◌, ◌≤◌, ◌<◌, ◌^◌, ◌+◌, ℕ, List, ◌++◌, ◌∷◌, [], length, true, Ok, IfOk, OnOk};
+ghost use Rattle.std.specs.Prelude.{◌≡◌, ◌≤◌, ◌<◌, ◌^◌, ◌+◌, ℕ, List, ◌++◌, ◌∷◌, [], length, true, false, Ok, IfOk, OnOk};
 ghost use Rattle.nn_edits.specs.Reading.{edit_of_line};
 ghost use Rattle.nn_bytes.specs.Pieces.{is_unbroken};
 ghost use Rattle.nn_scenario.specs.Lines.{IsReadBy};
@@ -13,7 +13,7 @@ ghost use Rattle.nn_run.specs.Following.{serving, line_count, Lived, IsLive, IsN
 ghost use Rattle.nn_types.specs.Limits.{max_datanodes};
 
 use crate::follower::{Follower, LogFault};
-use nn_edits::Line;
+use nn_edits::{KeptTexts, Line};
 use nn_image::ImageFault;
 use nn_scenario::{LineSink, PartFault, ScenarioFault, SegmentCheck};
 use nn_shadow::Shadow;
@@ -54,9 +54,19 @@ impl LineSink for Following {
 
     ghost count = { line_count };
 
-    fn line(&mut self, alloc: Global, text: &[u8], read: Line) -> Result<(), AllocError> {
+    fn line(
+        &mut self,
+        alloc: Global,
+        text: &[u8],
+        read: Line,
+        texts: &mut KeptTexts,
+    ) -> Result<(), AllocError> {
         match read {
-            Line::Edit(tx) => self.edit(text, &tx),
+            Line::Edit(tx) => {
+                self.edit(text, &tx)?;
+                texts.take_back(tx.edit);
+                Ok(())
+            }
             Line::Report(report) => self.report(&report),
         }
     }
@@ -108,6 +118,7 @@ impl Following {
     // Forgets the events of the last line, unless they are kept.
     fn forget(&mut self)
         ensures live { (first : Lived) (x : Reading) → IsLive first x self.old → IsLive first x self.new }
+        ensures forgets { self.old.history ≡ false → self.new.follower.standby.history ≡ [] }
         ensures count { line_count self.new ≡ line_count self.old }
     {
         if !self.history {

@@ -6,12 +6,13 @@ ghost use Rattle.nn_scenario.specs.Lines.{Hands, IsReadBy, IsRefusedLine};
 ghost use Rattle.nn_scenario.specs.Follow.{CameWithin, IsLeftUnread, IsLineText, IsRefusedAs, LinesRead, LinesReadOn, sink_unless};
 ghost use Rattle.nn_scenario.specs.Reading.{nothing_read};
 ghost use Rattle.nn_bytes.specs.Pieces.{is_unbroken};
+ghost use Rattle.nn_bytes.specs.Runs.{IsPrintableTo};
 ghost use Rattle.nn_types.specs.Limits.{max_input};
 
 use crate::lines::LineSink;
 use crate::scenario::{ScenarioFault, no_memory};
 use nn_device::Reader;
-use nn_edits::{Scratch, read_line};
+use nn_edits::{KeptTexts, Scratch, read_line_into};
 use nn_input::{InputFault, Lines};
 use nn_types::limits::{MAX_INPUT, MAX_LINE_LEN};
 use std::alloc::{AllocError, Global};
@@ -83,6 +84,7 @@ pub fn pass_to_end<R: Read>(lines: &mut Lines, input: &mut Reader<R>) -> Result<
 pub(crate) struct LineReader {
     alloc: Global,
     scratch: Scratch,
+    texts: KeptTexts,
     ended: u64,
 }
 
@@ -102,6 +104,7 @@ impl LineReader {
         LineReader {
             alloc,
             scratch: Scratch::new(alloc),
+            texts: KeptTexts::new(alloc),
             ended: 0,
         }
     }
@@ -129,7 +132,12 @@ impl LineReader {
             let Some(place) = found else {
                 return Ok(None);
             };
-            if let Err(bad) = self.take(sink, lines.text(place), lines.is_blank(place)) {
+            if let Err(bad) = self.take(
+                sink,
+                lines.text(place),
+                lines.is_blank(place),
+                lines.printable(place),
+            ) {
                 return Ok(Some(bad));
             }
         }
@@ -145,19 +153,21 @@ impl LineReader {
             → IsReadBy S.has_read first text (sink_unless result sink.new) }
         ensures count { S.count sink.new ≤ self.old + 1 }
     {
-        match self.take(sink, lines.torn(), lines.is_torn_blank()) {
+        match self.take(sink, lines.torn(), lines.is_torn_blank(), 0) {
             Ok(()) => None,
             Err(bad) => Some(bad),
         }
     }
 
-    /// Reads the next line, and hands it to the sink unless it is blank.
+    /// Reads the next line, and hands it to the sink unless it is blank. So many of its first bytes are known to be printable.
     pub(crate) fn take<S: LineSink>(
         &mut self,
         sink: &mut S,
         text: &[u8],
         blank: bool,
+        printable: usize,
     ) -> Result<(), ScenarioFault>
+        requires printable { IsPrintableTo printable text.now }
         requires line { (line : List ℕ) × (is_unbroken line ≡ true) × IsLineText line text.now blank }
         requires few { self.old ≤ max_input }
         requires count { S.count sink.old ≤ self.old }
@@ -171,11 +181,17 @@ impl LineReader {
         if blank {
             return Ok(());
         }
-        let read = match read_line(self.alloc, &mut self.scratch, text) {
+        let read = match read_line_into(
+            self.alloc,
+            &mut self.scratch,
+            &mut self.texts,
+            text,
+            printable,
+        ) {
             Ok(read) => read,
             Err(fault) => return Err(ScenarioFault { fault, line }),
         };
-        if let Err(_) = sink.line(self.alloc, text, read) {
+        if let Err(_) = sink.line(self.alloc, text, read, &mut self.texts) {
             return Err(no_memory(line));
         }
         Ok(())

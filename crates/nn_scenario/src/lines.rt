@@ -6,7 +6,7 @@ ghost use Rattle.nn_edits.specs.Reading.{either_of_line};
 ghost use Rattle.nn_scenario.specs.Reading.{Reading, followed_by_line};
 ghost use Rattle.nn_scenario.specs.Scenario.{line_as};
 
-use nn_edits::Line;
+use nn_edits::{KeptTexts, Line};
 use std::alloc::{AllocError, Global};
 
 /// Takes the lines of a scenario, one after another.
@@ -17,9 +17,16 @@ pub trait LineSink {
     /// How many lines it has taken, at most.
     ghost count: { Self → ℕ };
 
-    /// Takes one line: its text, which is lent without a line feed, and what it was read as. Where memory is refused it
-    /// may have taken part of it: no line is handed to it any more.
-    fn line(&mut self, alloc: Global, text: &[u8], read: Line) -> Result<(), AllocError>
+    /// Takes one line: its text, which is lent without a line feed, and what it was read as. Of an edit that it does not keep it
+    /// gives the texts of the paths back, for the next line. Where memory is refused it may have taken part of the line: no line is
+    /// handed to it any more.
+    fn line(
+        &mut self,
+        alloc: Global,
+        text: &[u8],
+        read: Line,
+        texts: &mut KeptTexts,
+    ) -> Result<(), AllocError>
         requires unbroken { is_unbroken text.now ≡ true }
         requires read { either_of_line text.now ≡ Ok read }
         requires lawful { IsLawfulLine read }

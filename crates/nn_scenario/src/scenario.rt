@@ -14,7 +14,7 @@ use crate::segments::Part;
 use crate::step_list::StepList;
 use crate::steps::Steps;
 use nn_bytes::{is_blank, line_end};
-use nn_edits::{Line, LineFault};
+use nn_edits::{KeptTexts, Line, LineFault};
 use nn_segment::is_end;
 use nn_types::Tx;
 use std::alloc::{AllocError, Global};
@@ -59,7 +59,7 @@ pub fn read_lines(alloc: Global, input: &[u8]) -> Result<Scenario, ScenarioFault
     'lines: loop {
         let end = line_end(rest);
         let line = &rest[..end];
-        if let Err(bad) = reader.take(&mut reading, line, is_blank(line)) {
+        if let Err(bad) = reader.take(&mut reading, line, is_blank(line), 0) {
             return Err(bad);
         }
         if end == rest.len() {
@@ -107,7 +107,14 @@ impl LineSink for Reading {
 
     ghost count = { λ reading. length reading.steps };
 
-    fn line(&mut self, alloc: Global, text: &[u8], read: Line) -> Result<(), AllocError> {
+    // It keeps each edit, with the texts of its paths.
+    fn line(
+        &mut self,
+        alloc: Global,
+        text: &[u8],
+        read: Line,
+        _texts: &mut KeptTexts,
+    ) -> Result<(), AllocError> {
         match read {
             Line::Edit(tx) => self.push_edit(alloc, text, tx),
             Line::Report(report) => self.steps.push_report(report),

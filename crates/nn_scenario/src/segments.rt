@@ -1,5 +1,5 @@
 //! The edit lines of a scenario as segments.
-ghost use Rattle.std.specs.Prelude.{◌≡◌, ◌≢◌, ◌≤◌, ◌++◌, ◌∷◌, [], true, Ok, Err, IfOk, IfErr, OnOk, MatchOption, max};
+ghost use Rattle.std.specs.Prelude.{◌≡◌, ◌≢◌, ◌≤◌, ◌++◌, ◌∷◌, [], true, Ok, Err, IfOk, IfErr, OnOk, OnErr, MatchOption, max};
 ghost use Rattle.std.specs.List.{All};
 ghost use Rattle.nn_bytes.specs.Lines.{line_feed};
 ghost use Rattle.nn_edits.specs.Reading.{edit_of_line};
@@ -55,9 +55,10 @@ impl Part {
         Ok(Part { bytes, txs })
     }
 
-    /// Adds the lines to the parts, if there are any.
+    /// Adds the lines to the parts, if there are any. Where memory is refused the parts stay.
     pub fn end(self, parts: &mut Vec<Part>) -> Result<(), AllocError>
-        ensures { OnOk result (parts.new.items ≡ parts.old.items ++ last_part self) }
+        ensures ok { OnOk result (parts.new.items ≡ parts.old.items ++ last_part self) }
+        ensures left { OnErr result (parts.new.items ≡ parts.old.items) }
     {
         if self.txs.is_empty() {
             return Ok(());

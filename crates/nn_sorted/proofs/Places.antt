@@ -145,11 +145,14 @@ module _ {K V : Type 0} {cmp : K → K → Ordering} (q : K → Ordering) (law :
   begun_above [] n l = true≢false n
   begun_above (x ∷ xs) n l = true≢false (sym (ap is_lt l) ∙ n)
 
-  -- where the chunk, the last one that begins at the key or below it, has it not
-  pub absent : (cs : List (Vec (K × V))) (c p : ℕ) (x : Vec (K × V)) → IsStrictlySortedBy cmp (keys_of (flat cs)) → AreFilled cs → IsBegun q cs (suc c) → IsAhead q cs (suc c) → slice_get cs c ≡ Some x
-      → IsAbove q x.items p → IsBelow q x.items p → IsAbsent q cs c p
-  absent cs c zero x s f b a at above below = absurd (begun_above x.items (b c x (omega arith) at) below)
-  absent cs c (suc p) x s f b a at above below =
+  -- behind an only chunk comes none
+  none_behind : (cs : List (Vec (K × V))) → length cs ≡ 1 → IsAhead q cs 1
+  none_behind cs one c at = absurd (let within = slice_get_within cs 1 c at in omega (arith, within, one))
+
+  -- the key stands behind an entry of the chunk, and nowhere
+  absent_behind : (cs : List (Vec (K × V))) (c p : ℕ) (x : Vec (K × V)) → IsStrictlySortedBy cmp (keys_of (flat cs)) → AreFilled cs → IsAhead q cs (suc c) → slice_get cs c ≡ Some x
+      → IsAbove q x.items (suc p) → IsBelow q x.items (suc p) → IsAbsent q cs c (suc p)
+  absent_behind cs c p x s f a at above below =
       let e = some_at x.items p (omega (arith, above.in_range)) in
       let h : entry_at cs c p ≡ Some e.0 = entry_in cs c p x at ∙ e.1 in
       let up = above.above p e.0 (omega arith) e.1 in
@@ -160,6 +163,24 @@ module _ {K V : Type 0} {cmp : K → K → Ordering} (q : K → Ordering) (law :
         below = below_here cs c (suc p) x f a at below;
       }
 
+  -- where the chunk, the last one that begins at the key or below it, has it not
+  pub absent : (cs : List (Vec (K × V))) (c p : ℕ) (x : Vec (K × V)) → IsStrictlySortedBy cmp (keys_of (flat cs)) → AreFilled cs → IsBegun q cs (suc c) → IsAhead q cs (suc c) → slice_get cs c ≡ Some x
+      → IsAbove q x.items p → IsBelow q x.items p → IsAbsent q cs c p
+  absent cs c zero x s f b a at above below = absurd (begun_above x.items (b c x (omega arith) at) below)
+  absent cs c (suc p) x s f b a at above below = absent_behind cs c p x s f a at above below
+
+  -- where the only chunk has it not
+  alone : (cs : List (Vec (K × V))) (p : ℕ) (x : Vec (K × V)) → IsStrictlySortedBy cmp (keys_of (flat cs)) → AreFilled cs → length cs ≡ 1 → slice_get cs 0 ≡ Some x
+      → IsAbove q x.items p → IsBelow q x.items p → IsAbsent q cs 0 p
+  alone cs (suc p) x s f one at above below = absent_behind cs 0 p x s f (none_behind cs one) at above below
+  alone [] zero x s f one at above below = absurd (true≢false (sym (ap is_some at)))
+  alone (y ∷ cs) zero x s f one at above below = record {
+    in_chunks = omega arith;
+    in_chunk = omega arith;
+    above = tt;
+    below = below_here (y ∷ cs) 0 0 x f (none_behind (y ∷ cs) one) at below;
+  }
+
   -- the same of what a search of the chunk answers
   pub found_in : (cs : List (Vec (K × V))) (c : ℕ) (x : Vec (K × V)) (es : List (K × V)) (r : Result ℕ ℕ) → IsStrictlySortedBy cmp (keys_of (flat cs)) → slice_get cs c ≡ Some x → es ≡ x.items → IfOk r (IsHere q es) → IfOk r (IsFound q cs c)
   found_in cs c x es (Ok p) s at e h = found cs c p x s at (subst (λ l. IsHere q l p) e h)
@@ -169,6 +190,11 @@ module _ {K V : Type 0} {cmp : K → K → Ordering} (q : K → Ordering) (law :
       → IfErr r (λ p. IsAbove q es p × IsBelow q es p) → IfErr r (IsAbsent q cs c)
   absent_in cs c x es (Ok p) s f b a at e h = tt
   absent_in cs c x es (Err p) s f b a at e h = absent cs c p x s f b a at (subst (λ l. IsAbove q l p) e h.0) (subst (λ l. IsBelow q l p) e h.1)
+
+  pub absent_alone : (cs : List (Vec (K × V))) (x : Vec (K × V)) (es : List (K × V)) (r : Result ℕ ℕ) → IsStrictlySortedBy cmp (keys_of (flat cs)) → AreFilled cs → length cs ≡ 1 → slice_get cs 0 ≡ Some x → es ≡ x.items
+      → IfErr r (λ p. IsAbove q es p × IsBelow q es p) → IfErr r (IsAbsent q cs 0)
+  absent_alone cs x es (Ok p) s f one at e h = tt
+  absent_alone cs x es (Err p) s f one at e h = alone cs p x s f one at (subst (λ l. IsAbove q l p) e h.0) (subst (λ l. IsBelow q l p) e h.1)
 
   -- where no chunk begins at the key or below it
   pub absent_at_start : (cs : List (Vec (K × V))) → AreFilled cs → IsAhead q cs 0 → IsAbsent q cs 0 0

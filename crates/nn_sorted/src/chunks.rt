@@ -33,6 +33,9 @@ pub(crate) fn find<K: Ord, V, Q: Seek<K>>(
     ensures found { IfOk result.1 (IsFound (Q.order key) chunks.now result.0) }
     ensures absent { IfErr result.1 (IsAbsent (Q.order key) chunks.now result.0) }
 {
+    if chunks.len() == 1 {
+        return (0, place_in(&chunks[0], key));
+    }
     let begun = begun(chunks, key);
     if begun == 0 {
         return (0, Err(0));
@@ -49,11 +52,13 @@ fn place_in<K: Ord, V, Q: Seek<K>>(entries: &[(K, V)], key: Q) -> Result<usize, 
     let Some(last) = entries.last() else {
         return Err(0);
     };
-    if let Ordering::Greater = key.compare(&last.0) {
-        return Err(entries.len());
-    }
     let mut low = 0;
-    let mut high = entries.len();
+    let mut high = entries.len() - 1;
+    match key.compare(&last.0) {
+        Ordering::Less => {}
+        Ordering::Equal => return Ok(high),
+        Ordering::Greater => return Err(high + 1),
+    }
     'halves: while low < high {
         let middle = low + (high - low) / 2;
         match key.compare(&entries[middle].0) {

@@ -1,2 +1,5 @@
+mod Numbers
+mod PlainBlocks
 pub mod PlainNames
+mod PlainPaths
 pub mod PutNames

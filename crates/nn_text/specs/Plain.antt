@@ -14,3 +14,7 @@ is_plain name = list_all is_plain_byte name
 -- a slash and a name, as a string of JSON has them
 abbrev pub escaped_name : List ℕ → List ℕ
 escaped_name name = slash ∷ escape name
+
+-- a slash and a name as it is
+abbrev pub slashed : List ℕ → List ℕ
+slashed name = slash ∷ name

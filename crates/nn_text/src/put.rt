@@ -10,8 +10,9 @@ ghost use Rattle.nn_types.specs.Path.{path_text};
 ghost use Rattle.nn_tree.specs.Listing.{lent_names};
 ghost use Rattle.nn_text.specs.Plain.{escaped_name};
 
+use crate::digits::Number;
+use crate::path::PlainPath;
 use crate::plain::is_plain;
-use itoa::Buffer;
 use nn_device::{Page, Writer};
 use std::io::Write;
 
@@ -19,12 +20,22 @@ use std::io::Write;
 pub fn put_number<W: Write>(page: &mut Page, writer: &mut Writer<W>, number: u64)
     ensures { PutsPiece (decimal number) page.old writer.old page.new writer.new }
 {
-    let mut buffer = Buffer::new();
-    page.put(writer, buffer.format(number).as_bytes());
+    page.put_short(writer, Number(number));
 }
 
 /// Puts the path of these names between quotes, escaped as JSON has it. No name at all is the root.
 pub fn put_path<W: Write>(page: &mut Page, writer: &mut Writer<W>, names: &[&str])
+    ensures { PutsPiece (compact_text (string (path_text (lent_names names.now)))) page.old writer.old page.new writer.new }
+{
+    if page.try_piece(writer, PlainPath { names }) {
+        return;
+    }
+    put_any_path(page, writer, names);
+}
+
+// The same of any path.
+#[inline(never)]
+fn put_any_path<W: Write>(page: &mut Page, writer: &mut Writer<W>, names: &[&str])
     ensures { PutsPiece (compact_text (string (path_text (lent_names names.now)))) page.old writer.old page.new writer.new }
 {
     page.put_byte(writer, b'"');

@@ -39,4 +39,5 @@ pub mod Blocks
 pub mod Work
 pub mod InOrder
 pub mod Descent
+pub mod Together
 pub mod Names

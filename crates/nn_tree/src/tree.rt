@@ -238,7 +238,7 @@ impl Tree {
         self.mkdir_refusal(dst)
     }
 
-    /// Moves what stands at `src` to `dst`. The place is made first, so that nothing has changed if memory runs out.
+    /// Moves what stands at `src` to `dst`. Walks down the names that both paths begin with once.
     pub(crate) fn rename(
         &mut self,
         alloc: Global,
@@ -249,7 +249,47 @@ impl Tree {
         ensures free { OnOk result (IsSubtree self.old dst.now None) }
         ensures ok { OnOk result (IsRenamed self.old src.now dst.now self.new) }
         ensures err { OnErr result (IsSame self.old self.new) }
+        ensures order { is_sorted path_cmp self.new ≡ true }
     {
+        self.recall_invariant();
+        let Some((first, src_rest)) = src.split_first() else {
+            return Err(Unchanged);
+        };
+        let Some((other, dst_rest)) = dst.split_first() else {
+            return Err(Unchanged);
+        };
+        if first != other {
+            return self.rename_apart(alloc, src, dst);
+        }
+        if let Node::Narrow(name, child) = &mut self.node {
+            if name.as_str() != first {
+                return Err(Unchanged);
+            }
+            return child.rename(alloc, &src_rest, &dst_rest);
+        }
+        let Node::Folder(children) = &mut self.node else {
+            return Err(Unchanged);
+        };
+        let Some(child) = children.get_mut(&Wanted::by(first)) else {
+            return Err(Unchanged);
+        };
+        child.rename(alloc, &src_rest, &dst_rest)
+    }
+
+    // Moves what stands at `src` to `dst`. The place is made first, so that nothing has changed if memory runs out.
+    fn rename_apart(
+        &mut self,
+        alloc: Global,
+        src: &Names<'_>,
+        dst: &Names<'_>,
+    ) -> Result<(), Unchanged>
+        ensures applies { OnOk result (rename_fault (at self.old) src.now dst.now ≡ None) }
+        ensures free { OnOk result (IsSubtree self.old dst.now None) }
+        ensures ok { OnOk result (IsRenamed self.old src.now dst.now self.new) }
+        ensures err { OnErr result (IsSame self.old self.new) }
+        ensures order { is_sorted path_cmp self.new ≡ true }
+    {
+        self.recall_invariant();
         if src.is_empty() {
             return Err(Unchanged);
         }
@@ -257,14 +297,17 @@ impl Tree {
             return Err(Unchanged);
         }
         let Ok(()) = self.make(alloc, dst, Tree::new_dir(alloc)) else {
+            self.recall_invariant();
             return Err(Unchanged);
         };
         let Some(tree) = self.take(alloc, src) else {
             let _placeholder = self.take(alloc, dst);
+            self.recall_invariant();
             return Err(Unchanged);
         };
         let _found = tree.top();
         let _placeholder = self.put(dst, tree);
+        self.recall_invariant();
         Ok(())
     }
 

@@ -1,6 +1,7 @@
 //! Paths of the namespace, seen as lists of names.
-ghost use Rattle.std.specs.Prelude.{◌≡◌, ◌+◌, ◌≤◌, List, ℕ, length, drop, Some, None, IfOk, IfSome, IfNone, IsErrOf, true, false};
+ghost use Rattle.std.specs.Prelude.{◌≡◌, ◌+◌, ◌≤◌, ◌<◌, OnErr, string_bytes, List, ℕ, length, drop, Some, None, IfOk, IfSome, IfNone, IsErrOf, true, false};
 ghost use Rattle.std.specs.List.{list_all, prefix_len};
+ghost use Rattle.std.specs.String.{string_capacity};
 ghost use Rattle.nn_types.specs.Fault.{number_of};
 ghost use Rattle.nn_types.specs.Path.{is_name, is_name_byte, parts, path_of, path_text, IsPath, AreUtf8, names_of_text};
 
@@ -10,6 +11,7 @@ use crate::names::{Names, name_len};
 use crate::simple::is_simple;
 use std::alloc::{AllocError, AllocFailed, Global};
 use std::marker::Model;
+use std::mem;
 use thiserror::Error;
 
 /// An absolute path, kept as its text. Its names go from the root down; the root has none.
@@ -87,6 +89,37 @@ impl Path {
         }
         let text = String::from_str(alloc, text)?;
         Ok(Path { text })
+    }
+
+    /// The same, in the room of a text that is kept. It asks for memory only where this text has too little room, and then for a
+    /// text of the path alone.
+    ///
+    /// What the kept text says is of no matter. It is empty afterwards, with no room, where the path has its room; else it is as it
+    /// was.
+    pub fn parse_into(alloc: Global, kept: &mut String, text: &str) -> Result<Path, PathFault>
+        ensures ok { IfOk result (λ p. IsPath p × (text.now ≡ path_text p)) }
+        ensures exact { IfOk result (λ p. path_of text.now ≡ Some p) }
+        ensures bad { IsErrOf result PathFault.BadPath → path_of text.now ≡ None }
+        ensures memory { IsErrOf result PathFault.OutOfMemory → string_capacity kept.old < length text.now }
+        ensures left { OnErr result (kept.new ≡ kept.old) }
+    {
+        if kept.capacity() < text.len() {
+            return Path::parse(alloc, text);
+        }
+        if !spells_path(text) {
+            return Err(PathFault::BadPath);
+        }
+        let mut filled = mem::replace(kept, String::new(alloc));
+        filled.clear();
+        filled.push_str(text)?;
+        Ok(Path { text: filled })
+    }
+
+    /// Its text alone, whose room another path may have.
+    pub fn into_text(self) -> String
+        ensures { string_bytes result ≡ path_text self }
+    {
+        self.text
     }
 
     /// The names, from the root down.

@@ -475,8 +475,8 @@ fn a_listing_of_many_parts(rt: HostRuntime) {
     let input = nested(rt.alloc(), 2357).unwrap_or(Vec::new(rt.alloc()));
     let written = Ok((4_157, 272_382_053));
     assert_eq!(rt; counted(rt.alloc(), &input, u64::MAX), written);
-    // 100 parts of 65,536 bytes.
-    let prefix = Err((100, 6_553_600));
+    // 100 parts, each of whole pieces and of at most 65,536 bytes.
+    let prefix = Err((100, 6_548_299));
     assert_eq!(rt; counted(rt.alloc(), &input, 100), prefix);
 }
 

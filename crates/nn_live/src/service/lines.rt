@@ -1,9 +1,12 @@
 //! Lines are taken as they come: words, edits and reports.
-ghost use Rattle.std.specs.Prelude.{◌≡◌, List, ℕ, [], true, IfErr, IsErrOf, OnOk};
+ghost use Rattle.std.specs.Prelude.{◌≡◌, List, ℕ, [], true, IfErr, IfOk, IsErrOf, OnOk};
 ghost use Rattle.nn_device.specs.Page.{PutsPiece};
+ghost use Rattle.nn_edits.specs.Grammar.{IsLawfulLine, IsLine};
+ghost use Rattle.nn_edits.specs.Outcome.{LineGives};
 ghost use Rattle.nn_edits.specs.Reading.{either_of_line};
 ghost use Rattle.nn_bytes.specs.Lines.{is_blank};
 ghost use Rattle.nn_bytes.specs.Pieces.{is_unbroken};
+ghost use Rattle.nn_bytes.specs.Runs.{IsPrintableTo};
 ghost use Rattle.nn_live.specs.Live.{ends, takes, takes_read, takes_torn};
 ghost use Rattle.nn_live.specs.Serving.{BreaksAtEnd, BreaksOff, HasRunOut, IsAtEnd, FollowsStep, RunsOutBehind, ServiceSteps};
 ghost use Rattle.nn_live.specs.Taking.{IsLong};
@@ -13,8 +16,9 @@ use crate::texts::put_fault;
 use crate::word::Word;
 use nn_bytes::is_blank;
 use nn_device::{Page, Writer};
-use nn_edits::{Line, LineFault, Scratch, read_line};
+use nn_edits::{KeptTexts, Line, LineFault, Scratch, read_line_into};
 use nn_types::fault;
+use std::alloc::Global;
 use std::io::Write;
 
 impl Service {
@@ -32,6 +36,26 @@ impl Service {
         ensures exhausted { IsErrOf result ServiceFault.Exhausted → HasRunOut self.old }
         ensures prefix { IfErr result (λ _. BreaksOff (λ asked s. takes asked text.now s) self.old (λ told. PutsPiece told page.old writer.old page.new writer.new)) }
     {
+        self.known_line(scratch, page, writer, text, 0)
+    }
+
+    /// The same of a line whose first bytes, so many as `printable` says, are known to be printable.
+    pub(crate) fn known_line<W: Write>(
+        &mut self,
+        scratch: &mut Scratch,
+        page: &mut Page,
+        writer: &mut Writer<W>,
+        text: &[u8],
+        printable: usize,
+    ) -> Result<(), ServiceFault>
+        requires whole { is_unbroken text.now ≡ true }
+        requires printable { IsPrintableTo printable text.now }
+        ensures ok { OnOk result (ServiceSteps (λ asked s. takes asked text.now s) self.old self.new
+            (λ told. PutsPiece told page.old writer.old page.new writer.new)) }
+        ensures exhausted { IsErrOf result ServiceFault.Exhausted → HasRunOut self.old }
+        ensures prefix { IfErr result (λ _. BreaksOff (λ asked s. takes asked text.now s) self.old
+            (λ told. PutsPiece told page.old writer.old page.new writer.new)) }
+    {
         self.next_line()?;
         if is_blank(text) {
             return Ok(());
@@ -41,7 +65,7 @@ impl Service {
         };
         match word {
             Some(word) => self.answer(page, writer, &word),
-            None => self.data(scratch, page, writer, text),
+            None => self.data(scratch, page, writer, text, printable),
         }
     }
 
@@ -128,7 +152,7 @@ impl Service {
             put_fault(page, writer, fault::NOT_JSON, " line ", self.lines);
             return Ok(());
         }
-        self.data(scratch, page, writer, text)
+        self.data(scratch, page, writer, text, 0)
     }
 
     // A line of data: an edit is put to those in hand, a report is handed, and it is told why a line is neither.
@@ -138,13 +162,15 @@ impl Service {
         page: &mut Page,
         writer: &mut Writer<W>,
         text: &[u8],
+        printable: usize,
     ) -> Result<(), ServiceFault>
-        requires { is_unbroken text.now ≡ true }
+        requires whole { is_unbroken text.now ≡ true }
+        requires printable { IsPrintableTo printable text.now }
         ensures ok { OnOk result (ServiceSteps (λ asked s. takes_read asked text.now (either_of_line text.now) s) self.old self.new (λ told. PutsPiece told page.old writer.old page.new writer.new)) }
         ensures exhausted { IsErrOf result ServiceFault.Exhausted → IsAtEnd self.old }
         ensures prefix { IfErr result (λ _. BreaksOff (λ asked s. takes_read asked text.now (either_of_line text.now) s) self.old (λ told. PutsPiece told page.old writer.old page.new writer.new)) }
     {
-        match read_line(self.alloc, scratch, text) {
+        match read_data(self.alloc, scratch, text, printable) {
             Ok(Line::Edit(tx)) => self.edit(page, writer, text, tx),
             Ok(Line::Report(report)) => self.report(page, writer, report),
             Err(fault) => {
@@ -156,4 +182,20 @@ impl Service {
             }
         }
     }
+}
+
+// Reads a line of data. The edits of a segment in hand keep their paths, so no text is kept from line to line.
+fn read_data(
+    alloc: Global,
+    scratch: &mut Scratch,
+    text: &[u8],
+    printable: usize,
+) -> Result<Line, LineFault>
+    requires { IsPrintableTo printable text.now }
+    ensures found { IfOk result (IsLine text.now) }
+    ensures exact { LineGives result (either_of_line text.now) }
+    ensures lawful { IfOk result IsLawfulLine }
+{
+    let mut texts = KeptTexts::new(alloc);
+    read_line_into(alloc, scratch, &mut texts, text, printable)
 }

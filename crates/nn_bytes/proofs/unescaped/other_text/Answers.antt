@@ -1,7 +1,5 @@
-use Rattle.std.proofs.Common.{◌≡◌, get_or, true, sym, ap, ◌∙◌, arith}
-use Rattle.std.specs.Str.{IsUtf8}
+use Rattle.std.proofs.Common.{get_or, sym, ap, ◌∙◌, arith}
 use Rattle.std.proofs.lemmas.Str.{IsUtf8-from_ascii}
-use Rattle.nn_bytes.specs.Runs.{is_unescaped_line}
 use Rattle.nn_bytes.proofs.PrintableRuns.{printable_line, return_is_ascii, unescaped_behind}
 use Rattle.nn_bytes.proofs.unescaped.other_text.Goals as goal
 

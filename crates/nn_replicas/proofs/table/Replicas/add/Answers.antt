@@ -9,8 +9,8 @@ use Rattle.nn_replicas.proofs.table.Replicas.add.Goals as goal
 pub invariant_of-self : goal.invariant_of-self
 invariant_of-self c = (c.self.invariant.0 ∙ ap (λ es. figures_of (table c.self.inside.min es)) (sym c.in_err-insert.ensures.err), c.insert.ensures.ordered)
 
-pub replaced-self-inside-requires : goal.replaced-self-inside-requires
-replaced-self-inside-requires c =
+pub replace-requires : goal.replace-requires
+replace-requires c =
     let none = sym (lookup_is_find c.args.block c.self.inside.entries ∙ ap (λ t. entry_at t c.args.block) c.self.view_is ∙ c.requires.none) in
     let h = added c.self.inside.entries c.insert.new.self c.args.block c.args.entry none c.self.invariant.1 c.in_ok-insert.ensures.entries in
     may_set h c.self.inside.min c.self.inside.figures c.none.result c.figures-is.result c.self.invariant.0 c.none.ensures c.figures-is.ensures
@@ -21,7 +21,7 @@ pub invariant_of-self-2 : goal.invariant_of-self-2
 invariant_of-self-2 c =
     let none = sym (lookup_is_find c.args.block c.self.inside.entries ∙ ap (λ t. entry_at t c.args.block) c.self.view_is ∙ c.requires.none) in
     let h = added c.self.inside.entries c.insert.new.self c.args.block c.args.entry none c.self.invariant.1 c.in_ok-insert.ensures.entries in (
-      c.replaced-self-inside.ensures ∙ figures_set h c.self.inside.min c.self.inside.figures c.none.result c.figures-is.result c.self.invariant.0 c.none.ensures c.figures-is.ensures,
+      c.replace.ensures ∙ figures_set h c.self.inside.min c.self.inside.figures c.none.result c.figures-is.result c.self.invariant.0 c.none.ensures c.figures-is.ensures,
       c.insert.ensures.ordered,
     )
 

@@ -1,9 +1,10 @@
 use Rattle.std.proofs.Common.{refl, sym, ap, ◌∙◌, arith}
 use Rattle.std.specs.Option.{option_copied_mut}
+use Rattle.nn_replicas.specs.declared.entry.Told.TheVariants.{HasNone}
 use Rattle.nn_replicas.specs.Entry.{with_erased}
-use Rattle.nn_replicas.specs.Figures.{figures_in}
-use Rattle.nn_replicas.proofs.Tables.{set_at, sorted_set, written, changed_new, not_changed}
-use Rattle.nn_replicas.proofs.Figured.{figures_set, may_set}
+use Rattle.nn_replicas.proofs.Tables.{written, changed_new, not_changed}
+use Rattle.nn_replicas.proofs.Figured.{keeps_new, keeps_same, may_tell}
+use Rattle.nn_replicas.proofs.Written.{cells_there, erased_there, erased_not}
 use Rattle.nn_replicas.proofs.table.Replicas.erase.Goals as goal
 
 pub returns-in_default : goal.returns-in_default
@@ -11,26 +12,26 @@ returns-in_default c =
     let none = sym (ap option_copied_mut c.in_default.is) ∙ c.get_mut.ensures.value in
     c.self.view_is ∙ not_changed c.args.self.now c.self.inside.min c.args.block c.self.inside.entries (λ e. with_erased e c.args.dn) c.self.view_is none
 
-pub recount-requires : goal.recount-requires
-recount-requires c =
-    let h = written c.self.inside.entries (set_at c.args.block c.self.inside.entries c.erase-change.new.self) c.args.block c.in-Some.entry.now c.erase-change.new.self c.in-Some.ensures.value c.self.invariant.1 refl in
-    let may = may_set h c.self.inside.min c.self.inside.figures (figures_in c.self.inside.min c.in-Some.entry.now) (figures_in c.self.inside.min c.erase-change.new.self) c.self.invariant.0 refl refl
+pub tell-requires : goal.tell-requires
+tell-requires c =
+    may_tell c.self.inside.min c.args.block c.self.inside.entries c.in-Some.entry.now c.args.dn HasNone c.in-Some.ensures.value c.self.invariant.1 c.self.inside.figures c.self.invariant.0
     (let n = c.len-recalled.ensures.len in omega (arith, n, c.len-recalled.ensures.small))
-    (omega (arith, c.erase-change.ensures.places)) in
-    (c.in-Some.entry.now, c.args.dn, c.erase-change.ensures.change, c.erase-change.ensures.order, may)
+    (omega (arith, cells_there c.in-Some.entry.now c.args.dn (sym c.if-has_cell.ensures)))
 
-pub invariant_of-self-2 : goal.invariant_of-self-2
-invariant_of-self-2 c =
-    let h = written c.self.inside.entries (set_at c.args.block c.self.inside.entries c.erase-change.new.self) c.args.block c.in-Some.entry.now c.erase-change.new.self c.in-Some.ensures.value c.self.invariant.1 refl in
-    let may = may_set h c.self.inside.min c.self.inside.figures (figures_in c.self.inside.min c.in-Some.entry.now) (figures_in c.self.inside.min c.erase-change.new.self) c.self.invariant.0 refl refl
-    (let n = c.len-recalled.ensures.len in omega (arith, n, c.len-recalled.ensures.small))
-    (omega (arith, c.erase-change.ensures.places)) in (
-      c.recount.ensures c.in-Some.entry.now c.args.dn c.erase-change.ensures.change c.erase-change.ensures.order may
-          ∙ figures_set h c.self.inside.min c.self.inside.figures (figures_in c.self.inside.min c.in-Some.entry.now) (figures_in c.self.inside.min c.erase-change.new.self) c.self.invariant.0 refl refl,
-      sorted_set c.args.block c.self.inside.entries c.erase-change.new.self c.self.invariant.1,
-    )
+pub invariant_of-self-in-Ok : goal.invariant_of-self-in-Ok
+invariant_of-self-in-Ok c =
+    keeps_new c.self.inside.min c.args.block c.self.inside.entries c.in-Some.entry.now c.tell.new.self c.in-Some.ensures.value c.self.invariant.1 c.self.inside.figures c.self.invariant.0 _ _ _ refl refl c.in-Ok.ensures.figures
 
-pub returns : goal.returns
-returns c =
-    let h = written c.self.inside.entries (set_at c.args.block c.self.inside.entries c.erase-change.new.self) c.args.block c.in-Some.entry.now c.erase-change.new.self c.in-Some.ensures.value c.self.invariant.1 refl in
-    changed_new h c.args.self.now c.self.inside.min (λ e. with_erased e c.args.dn) c.self.view_is c.erase-change.ensures.erased
+pub returns-in-Ok : goal.returns-in-Ok
+returns-in-Ok c =
+    let h = written c.args.block c.self.inside.entries c.in-Some.entry.now c.tell.new.self c.in-Some.ensures.value c.self.invariant.1 in
+    changed_new h c.args.self.now c.self.inside.min (λ e. with_erased e c.args.dn) c.self.view_is (c.in-Ok.ensures.ok ∙ erased_there c.in-Some.entry.now c.args.dn (sym c.if-has_cell.ensures))
+
+pub invariant_of-self-else-has_cell : goal.invariant_of-self-else-has_cell
+invariant_of-self-else-has_cell c =
+    keeps_same c.self.inside.min c.args.block c.self.inside.entries c.in-Some.entry.now c.in-Some.entry.now c.in-Some.ensures.value c.self.invariant.1 c.self.inside.figures c.self.invariant.0 _ refl refl
+
+pub returns-else-has_cell : goal.returns-else-has_cell
+returns-else-has_cell c =
+    let h = written c.args.block c.self.inside.entries c.in-Some.entry.now c.in-Some.entry.now c.in-Some.ensures.value c.self.invariant.1 in
+    changed_new h c.args.self.now c.self.inside.min (λ e. with_erased e c.args.dn) c.self.view_is (erased_not c.in-Some.entry.now c.args.dn (sym c.if-has_cell.ensures))

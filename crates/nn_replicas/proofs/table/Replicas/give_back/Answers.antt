@@ -10,8 +10,8 @@ returns-in_default c = none_given c.args.self.now c.self.inside.min c.args.block
 pub returns-then-not-is_idle : goal.returns-then-not-is_idle
 returns-then-not-is_idle c = not_given c.args.self.now c.self.inside.min c.args.block c.self.inside.entries c.in-Some.entry.now c.self.view_is c.in-Some.ensures.value (sym c.is_idle.ensures ∙ c.if-not-is_idle.true)
 
-pub replaced-self-inside-requires : goal.replaced-self-inside-requires
-replaced-self-inside-requires c =
+pub replace-requires : goal.replace-requires
+replace-requires c =
     let l = leaves c.args.self.now c.self.inside.min c.args.block c.self.inside.entries c.remove-room.new.self c.in-Some.entry.now c.self.view_is c.in-Some.ensures.value (sym c.is_idle.ensures ∙ c.if-not-is_idle.false) c.remove-room.ensures.entries in
     may_replace c.self.inside.min c.self.inside.entries c.remove-room.new.self (Some c.in-Some.entry.now) None (went l) c.self.inside.figures c.figures-was.result c.none.result
     c.self.invariant.0 c.figures-was.ensures c.none.ensures
@@ -21,7 +21,7 @@ replaced-self-inside-requires c =
 pub invariant_of-self : goal.invariant_of-self
 invariant_of-self c =
     let l = leaves c.args.self.now c.self.inside.min c.args.block c.self.inside.entries c.remove-room.new.self c.in-Some.entry.now c.self.view_is c.in-Some.ensures.value (sym c.is_idle.ensures ∙ c.if-not-is_idle.false) c.remove-room.ensures.entries in (
-      c.replaced-self-inside.ensures ∙ figures_new c.self.inside.min c.self.inside.entries c.remove-room.new.self (Some c.in-Some.entry.now) None (went l) c.self.inside.figures c.figures-was.result c.none.result
+      c.replace.ensures ∙ figures_new c.self.inside.min c.self.inside.entries c.remove-room.new.self (Some c.in-Some.entry.now) None (went l) c.self.inside.figures c.figures-was.result c.none.result
           c.self.invariant.0 c.figures-was.ensures c.none.ensures,
       c.remove-room.ensures.ordered,
     )

@@ -1,4 +1,5 @@
-use Rattle.std.proofs.Common.{arith}
+use Rattle.std.proofs.Common.{sym, subst, arith}
+use Rattle.nn_bytes.specs.Runs.{IsPrintableTo}
 use Rattle.nn_input.specs.Cut.{line_blank}
 use Rattle.nn_scenario.proofs.FollowLemmas.{of_some, one_more, one_refused, same_text}
 use Rattle.nn_scenario.proofs.follow.LineReader.take_lines.Goals as goal
@@ -9,6 +10,9 @@ take-requires-clause-line g c =
     let r = c.cuts.invariant.read come.0 come.1 come.2 in
     let ended = of_some _ c.in-Some.is c.in-Ok.ensures.line come.1 r.lines r.come in
     (ended.line, ended.unbroken, same_text c.text.ensures.text c.is_blank.ensures ended.text)
+
+pub take-requires-clause-printable : goal.take-requires-clause-printable
+take-requires-clause-printable g c = subst (IsPrintableTo c.printable.result) (sym c.text.ensures.text) c.printable.ensures
 
 pub returns-in-Err-clause-bad : goal.returns-in-Err-clause-bad
 returns-in-Err-clause-bad g c = λ first text before.

@@ -1,8 +1,9 @@
 -- A text in quotes in a line without escapes: its bytes are its content.
-use Rattle.std.proofs.Common.{◌≡◌, ℕ, suc, ◌+◌, ◌-◌, ◌<◌, length, get_or, List, [], ◌∷◌, ◌++◌, take, drop, Bool, true, false, cond, not, nat_le, nat_lt, ◌&&◌, ◌||◌, ◌==◌, le-ltb, leb-true, refl, sym, ap, ◌∙◌, arith}
-use Rattle.std.proofs.lemmas.Bool.{and_parts, or_parts, not-false, not-true, eqb-false, eqb-true, ltb-false}
-use Rattle.std.proofs.lemmas.List.{drop-take, get_or-drop, length-drop, take-take}
+use Rattle.std.proofs.Common.{◌≡◌, ℕ, suc, ◌+◌, ◌-◌, ◌<◌, ◌≤◌, length, get_or, List, [], ◌∷◌, ◌++◌, take, drop, Bool, true, false, cond, not, nat_le, nat_lt, ◌&&◌, ◌||◌, ◌==◌, le-ltb, leb-true, refl, sym, ap, ◌∙◌, arith}
+use Rattle.std.proofs.lemmas.Bool.{ne_eqb, and_parts, or_parts, not-false, not-true, eqb-false, eqb-true, ltb-false}
+use Rattle.std.proofs.lemmas.List.{drop-take, get_or-drop, length-drop, length-take-le, take-append-drop, take-take}
 use Rattle.std.proofs.lemmas.List.Sums.{prefix_len_stops}
+use Rattle.std.proofs.lemmas.List.Folds.{prefix_len-append}
 use Rattle.std.specs.List.{prefix_len}
 use Rattle.std.specs.Str.{IsUtf8, IsCharBoundary}
 use Rattle.std.proofs.lemmas.Str.{IsCharBoundary-after_ascii}
@@ -82,6 +83,18 @@ pub quoted_text : (d : List ℕ) (i stop : ℕ) → is_unescaped_line d ≡ true
 quoted_text d i stop unescaped within is =
     let bytes = within_line d i (prefix_len is_no_quote (drop i d)) unescaped (omega (arith, within, is)) in
     plain_text d i stop (is ∙ ap (λ n. i + n) (same_run (drop i d) bytes))
+
+-- ---- a quote in the next 16 bytes
+
+pub in_block : (p : ℕ → Bool) (d : List ℕ) (i : ℕ) → i + 16 ≤ length d → prefix_len p (take 16 (drop i d)) < 16 → prefix_len p (take 16 (drop i d)) ≡ prefix_len p (drop i d)
+in_block p d i room less =
+    let block = take 16 (drop i d) in
+    let long : length block ≡ 16 = length-take-le 16 (drop i d) (omega (arith, length-drop i d, room)) in
+    sym (
+    ap (prefix_len p) (sym (take-append-drop 16 (drop i d)))
+    ∙ prefix_len-append p block (drop 16 (drop i d))
+    ∙ ap (λ b. cond b (length block + prefix_len p (drop 16 (drop i d))) (prefix_len p block)) (ne_eqb (prefix_len p block) (length block) (λ e. omega (arith, e, long, less)))
+    )
 
 -- ---- the two quotes
 

@@ -101,28 +101,28 @@ fn plain_numbers(tokens: &mut Tokens<'_>) -> Option<Block>
             let block = numbers.block()?;
             return Some(block);
         };
-        let Some(value) = plain_scalar::<Numbers>(tokens) else {
+        let Some(value) = plain_scalar(tokens) else {
             return None;
         };
         numbers.put(key.text, value.number());
     }
 }
 
-/// The text, the number or the truth value that comes next. `S` is whom it is read for: each has a copy of the code.
+// The text, the number or the truth value that comes next.
 #[inline(always)]
-pub(crate) fn plain_scalar<'a, S>(tokens: &mut Tokens<'a>) -> Option<Plain<'a>>
+fn plain_scalar<'a>(tokens: &mut Tokens<'a>) -> Option<Plain<'a>>
     ensures { IfSome result (λ v. (d : Data) × ((depth : ℕ) → data_at depth tokens.old ≡ Some (d, tokens.new))
         × Spells d v × (length tokens.new < length tokens.old)) }
 {
     let first = tokens.next_byte();
     if first == b'"' {
-        let text = tokens.text::<S>()?;
+        let text = tokens.text::<Numbers>()?;
         return Some(Plain::Text(text));
     }
     if first <= b'9' {
-        let number = tokens.whole::<S>()?;
+        let number = tokens.whole::<Numbers>()?;
         return Some(Plain::Whole(number));
     }
-    let truth = tokens.truth()?;
+    let truth = tokens.truth::<Numbers>()?;
     Some(Plain::Truth(truth))
 }

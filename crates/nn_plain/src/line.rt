@@ -1,13 +1,13 @@
 //! The object that a plain line is, read member by member.
-ghost use Rattle.std.specs.Prelude.{◌≡◌, length, Some, IsTrue, true};
-ghost use Rattle.serde_json.specs.Data.{Members, object, no_members};
+ghost use Rattle.std.specs.Prelude.{◌≡◌, ◌<◌, ℕ, List, length, Some, IsTrue, true};
+ghost use Rattle.serde_json.specs.Data.{Data, Members, object, no_members, put};
 ghost use Rattle.serde_json.specs.Read.{read};
 ghost use Rattle.nn_bytes.specs.Runs.{is_unescaped_line};
-ghost use Rattle.nn_plain.specs.Ahead.{members_at};
+ghost use Rattle.nn_plain.specs.Ahead.{data_at, members_at};
 
-use crate::blocks::{plain_blocks, plain_scalar};
+use crate::blocks::plain_blocks;
 use crate::tokens::Tokens;
-use crate::value::Slots;
+use crate::value::{Plain, Slots};
 use std::alloc::Global;
 
 /// Whether a text without escapes is a plain line. Then the slots have its members.
@@ -44,15 +44,45 @@ fn plain_members<'a, S: Slots<'a>>(alloc: Global, tokens: &mut Tokens<'a>, slots
         };
         let slot = S::slot(key.text, key.word);
         if tokens.next_byte() == b'[' {
-            let Some(blocks) = plain_blocks(alloc, tokens) else {
+            let mut inner = tokens.again();
+            let Some(blocks) = plain_blocks(alloc, &mut inner) else {
                 return false;
             };
+            *tokens = inner;
             slots.put_array(slot, blocks);
-        } else {
-            let Some(value) = plain_scalar::<S>(tokens) else {
-                return false;
-            };
-            slots.put(slot, value);
+        } else if !put_scalar(tokens, slots, slot) {
+            return false;
         }
     }
+}
+
+// Gives the slots the text, the number or the truth value that comes next. No value is made of the three first: each goes where
+// its kind goes.
+#[inline(always)]
+fn put_scalar<'a, S: Slots<'a>>(tokens: &mut Tokens<'a>, slots: &mut S, slot: S::Slot) -> bool
+    ensures { IsTrue result → (d : Data)
+        × ((depth : ℕ) → data_at depth tokens.old ≡ Some (d, tokens.new))
+        × (length tokens.new < length tokens.old)
+        × ((key : List ℕ) (ms : Members) → S.names slot key → S.seen slots.old ms → S.seen slots.new (put key d ms)) }
+{
+    let first = tokens.next_byte();
+    if first == b'"' {
+        let Some(text) = tokens.text::<S>() else {
+            return false;
+        };
+        slots.put(slot, Plain::Text(text));
+        return true;
+    }
+    if first <= b'9' {
+        let Some(number) = tokens.whole::<S>() else {
+            return false;
+        };
+        slots.put(slot, Plain::Whole(number));
+        return true;
+    }
+    let Some(truth) = tokens.truth::<S>() else {
+        return false;
+    };
+    slots.put(slot, Plain::Truth(truth));
+    true
 }

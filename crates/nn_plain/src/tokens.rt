@@ -1,5 +1,5 @@
 //! The tokens of a plain line, found as they are read.
-ghost use Rattle.std.specs.Prelude.{◌≡◌, ◌⊎◌, ◌∷◌, ◌<◌, ◌≤◌, length, drop, get_or, Some, option_map, if◌then◌else◌, IfSome, IsTrue, true, [], List, ℕ};
+ghost use Rattle.std.specs.Prelude.{◌≡◌, ◌⊎◌, ◌+◌, ◌∷◌, ◌++◌, ◌<◌, ◌≤◌, length, drop, get_or, Some, option_map, if◌then◌else◌, IfSome, IsTrue, true, [], List, ℕ};
 ghost use Rattle.serde_json.specs.Data.{unsigned};
 ghost use Rattle.serde_json.specs.Read.{number_of};
 ghost use Rattle.json.specs.Json.{read_key};
@@ -8,11 +8,12 @@ ghost use Rattle.json.specs.Lex.{tokens};
 ghost use Rattle.nn_plain.specs.Bytes.{AtStop, NextBegins, EndsValue, Skips};
 ghost use Rattle.nn_bytes.specs.Runs.{is_unescaped_line};
 ghost use Rattle.nn_plain.specs.Words.{Begins};
+ghost use Rattle.json.specs.Print.{escape};
 
 use crate::number::number_at;
-use crate::text::quoted_at;
+use crate::text::{quoted_at, short_quoted_at};
 use crate::truth::truth_at;
-use crate::word::word_at;
+use crate::word::{word_at, word_of_block};
 use std::marker::Model;
 
 /// The rest of a line. A contract sees the tokens that are still to come.
@@ -75,6 +76,11 @@ impl<'a> Tokens<'a> {
     {
         let text = self.text;
         let at = self.at;
+        if let Some((key, colon)) = near_key(text, at, self.fresh) {
+            self.at = after_blanks(text, colon + 1);
+            self.fresh = true;
+            return Some(Some(key));
+        }
         if byte_at(text, at) == b'}' {
             self.at = after_blanks(text, at + 1);
             self.fresh = false;
@@ -87,6 +93,19 @@ impl<'a> Tokens<'a> {
         self.at = after_blanks(text, colon + 1);
         self.fresh = true;
         Some(Some(Key { text: key, word }))
+    }
+
+    /// The same rest once more. A caller whose tokens are handed to no call keeps them in registers, so it hands this on and then
+    /// goes on behind it.
+    #[inline(always)]
+    pub(crate) fn again(&self) -> Tokens<'a>
+        ensures { result ≡ self.now }
+    {
+        Tokens {
+            text: self.text,
+            at: self.at,
+            fresh: self.fresh,
+        }
     }
 
     /// The byte that comes next, and 0 at the end.
@@ -129,7 +148,7 @@ impl<'a> Tokens<'a> {
 
     /// The truth value that comes next.
     #[inline(always)]
-    pub(crate) fn truth(&mut self) -> Option<bool>
+    pub(crate) fn truth<S>(&mut self) -> Option<bool>
         ensures { IfSome result (λ b. self.old ≡ boolean b ∷ self.new) }
     {
         if !self.fresh {
@@ -200,6 +219,50 @@ fn byte_at(text: &str, i: usize) -> u8
 {
     let bytes = text.as_bytes();
     if i < bytes.len() { bytes[i] } else { 0 }
+}
+
+// The key that comes next, and where its colon stands: a key of at most eight bytes, with the colon at once and at most one blank
+// before it, as nearly all are. It is found in one block. None says nothing.
+#[inline(always)]
+fn near_key(text: &str, at: usize, first: bool) -> Option<(Key<'_>, usize)>
+    requires bound { at ≤ length text.now }
+    requires unescaped { is_unescaped_line text.now ≡ true }
+    ensures here { IfSome result (λ r. (start : ℕ) × NextBegins first text.now at start
+        × (drop start text.now ≡ 34 ∷ (r.0.text.now ++ 34 ∷ drop r.1 text.now))) }
+    ensures plain { IfSome result (λ r. escape r.0.text.now ≡ r.0.text.now) }
+    ensures colon { IfSome result (λ r. get_or text.now r.1 0 ≡ 58) }
+    ensures word { IfSome result (λ r. Begins r.0.word r.0.text.now) }
+    ensures bound { IfSome result (λ r. r.1 < length text.now) }
+{
+    if text.len() - at < 19 {
+        return None;
+    }
+    let start = near_start(text, at, first)?;
+    let (key, colon) = short_quoted_at(text, start)?;
+    if key.len() > 8 || byte_at(text, colon) != b':' {
+        return None;
+    }
+    let word = word_of_block(text.as_bytes(), start + 1);
+    Some((Key { text: key, word }, colon))
+}
+
+// Where the next key begins, if at most one blank stands before it.
+#[inline(always)]
+fn near_start(text: &str, at: usize, first: bool) -> Option<usize>
+    requires { at + 19 ≤ length text.now }
+    ensures begins { IfSome result (NextBegins first text.now at) }
+    ensures bound { IfSome result (λ start. start + 17 ≤ length text.now) }
+{
+    if first {
+        return Some(at);
+    }
+    if byte_at(text, at) != b',' {
+        return None;
+    }
+    if byte_at(text, at + 1) == b' ' {
+        return Some(at + 2);
+    }
+    Some(at + 1)
 }
 
 // Where the next key or item begins. A comma comes before each but the first.

@@ -1,5 +1,5 @@
 //! Keys as numbers: a key of at most eight bytes is found by one comparison.
-ghost use Rattle.std.specs.Prelude.{◌≡◌, ◌≤◌, ℕ, List, length, take, drop};
+ghost use Rattle.std.specs.Prelude.{◌≡◌, ◌+◌, ◌≤◌, ℕ, List, length, take, drop};
 ghost use Rattle.nn_plain.specs.Words.{Begins, high_word};
 
 use crate::by_eight::first_word;
@@ -37,5 +37,14 @@ pub(crate) fn word_at(text: &[u8], from: usize, key: &str) -> u64
     if text.len() - from < 16 {
         return word_of(key.as_bytes());
     }
+    word_of_block(text, from)
+}
+
+/// A word that begins with each key of at most eight bytes that stands at `from`. 16 bytes are left there.
+#[inline(always)]
+pub(crate) fn word_of_block(text: &[u8], from: usize) -> u64
+    requires { from + 16 ≤ length text.now }
+    ensures { (key : List ℕ) → take (length key) (drop from text.now) ≡ key → length key ≤ 8 → Begins result key }
+{
     first_word(block_at(text, from))
 }

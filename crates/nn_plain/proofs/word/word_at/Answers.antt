@@ -1,9 +1,4 @@
-use Rattle.std.proofs.Common.{arith}
-use Rattle.nn_plain.proofs.KeyWords.{block_begins, block_small}
 use Rattle.nn_plain.proofs.word.word_at.Goals as goal
 
-pub first_word-requires : goal.first_word-requires
-first_word-requires c = block_small c.args.text.now _ c.args.from c.block_at.ensures c.type_inv.text
-
 pub returns : goal.returns
-returns c = λ short. block_begins c.args.text.now c.args.key.now _ c.args.from _ c.block_at.ensures (omega arith) c.first_word.ensures c.type_inv.text c.requires.here short
+returns c = λ short. c.word_of_block.ensures c.args.key.now c.requires.here short

@@ -6,7 +6,7 @@ use Rattle.nn_plain.proofs.FirstToken.{truth_then}
 use Rattle.nn_plain.proofs.tokens.Tokens.truth.Goals as goal
 
 pub returns : goal.returns
-returns c =
+returns g c =
     let a = c.self.inside in
     let d = a.text.now in
     let found = c.in_ok-truth in

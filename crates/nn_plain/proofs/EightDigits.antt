@@ -12,22 +12,6 @@ use Rattle.nn_plain.specs.Words.{value_of_pairs}
 
 -- ---- a word of digits
 
--- The first pair of digits, and the others.
-first_pair : (z0 z1 z2 r : ℕ) → z0 ≤ 9 → z1 ≤ 9 → z2 ≤ 9 → ((z0 + 256 * (z1 + 256 * (z2 + 256 * r))) * 10 + (z1 + 256 * (z2 + 256 * r))) % 256 ≡ 10 * z0 + z1
-first_pair z0 z1 z2 r a b c = omega (arith, a, b, c)
-
-next_pair : (z0 z1 z2 r : ℕ) → z0 ≤ 9 → z1 ≤ 9 → z2 ≤ 9 → ((z0 + 256 * (z1 + 256 * (z2 + 256 * r))) * 10 + (z1 + 256 * (z2 + 256 * r))) / 65536 ≡ (z2 + 256 * r) * 10 + r
-next_pair z0 z1 z2 r a b c = omega (arith, a, b, c)
-
-no_first : (z r : ℕ) → z ≤ 9 → (z + 256 * r) / 256 ≡ r
-no_first z r a = omega (arith, a)
-
-twice_16 : (v : ℕ) → v / 4294967296 ≡ v / 65536 / 65536
-twice_16 v = omega arith
-
-thrice_16 : (v : ℕ) → v / 281474976710656 ≡ v / 65536 / 65536 / 65536
-thrice_16 v = omega arith
-
 abbrev AllSmall : List ℕ → Type 0
 AllSmall [] = Unit {0}
 AllSmall (z ∷ zs) = (z ≤ 9) × AllSmall zs
@@ -36,34 +20,69 @@ abbrev in_tens : ℕ → List ℕ → ℕ
 in_tens n [] = n
 in_tens n (z ∷ zs) = in_tens (n * 10 + z) zs
 
+-- Of each two lanes a mask leaves the first.
+and_16 : (l m n s : ℕ) → l < 256 → m < 256 → bit_and (l + 256 * m + 65536 * n) (255 + 65536 * s) ≡ l + 65536 * bit_and n s
+and_16 l m n s a b =
+    let x : l + 256 * m + 65536 * n ≡ n * 2 ^ 16 + (l + 256 * m) = omega arith in
+    let y : 255 + 65536 * s ≡ s * 2 ^ 16 + 255 = omega arith in
+    let low : bit_and (l + 256 * m) 255 ≡ (l + 256 * m) % 256 = and_mask (l + 256 * m) 8 in
+    ap₂ bit_and x y ∙ and_block 16 n s (l + 256 * m) 255 (omega (arith, a, b)) (omega arith) ∙ omega (arith, low, a)
+
+and_32 : (l m n s : ℕ) → l < 65536 → m < 65536 → bit_and (l + 65536 * m + 4294967296 * n) (65535 + 4294967296 * s) ≡ l + 4294967296 * bit_and n s
+and_32 l m n s a b =
+    let x : l + 65536 * m + 4294967296 * n ≡ n * 2 ^ 32 + (l + 65536 * m) = omega arith in
+    let y : 65535 + 4294967296 * s ≡ s * 2 ^ 32 + 65535 = omega arith in
+    let low : bit_and (l + 65536 * m) 65535 ≡ (l + 65536 * m) % 65536 = and_mask (l + 65536 * m) 16 in
+    ap₂ bit_and x y ∙ and_block 32 n s (l + 65536 * m) 65535 (omega (arith, a, b)) (omega arith) ∙ omega (arith, low, a)
+
+two_by_two : (z0 z1 z2 z3 z4 z5 z6 z7 : ℕ) → AllSmall (z0 ∷ z1 ∷ z2 ∷ z3 ∷ z4 ∷ z5 ∷ z6 ∷ z7 ∷ [])
+    → let digits = number_l 256 (z0 ∷ z1 ∷ z2 ∷ z3 ∷ z4 ∷ z5 ∷ z6 ∷ z7 ∷ []) in
+    bit_and (digits * 10 + digits / 256) 71777214294589695 ≡ (10 * z0 + z1) + 65536 * ((10 * z2 + z3) + 65536 * ((10 * z4 + z5) + 65536 * (10 * z6 + z7)))
+two_by_two z0 z1 z2 z3 z4 z5 z6 z7 (h0, (h1, (h2, (h3, (h4, (h5, (h6, (h7, h8)))))))) =
+    let digits = number_l 256 (z0 ∷ z1 ∷ z2 ∷ z3 ∷ z4 ∷ z5 ∷ z6 ∷ z7 ∷ []) in
+    let n3 = (10 * z6 + z7) + 256 * (10 * z7) + 65536 * 0 in
+    let n2 = (10 * z4 + z5) + 256 * (10 * z5 + z6) + 65536 * n3 in
+    let n1 = (10 * z2 + z3) + 256 * (10 * z3 + z4) + 65536 * n2 in
+    let n0 = (10 * z0 + z1) + 256 * (10 * z1 + z2) + 65536 * n1 in
+    let e : digits * 10 + digits / 256 ≡ n0 = omega (arith, h0) in
+    ap (λ x. bit_and x 71777214294589695) e
+    ∙ and_16 (10 * z0 + z1) (10 * z1 + z2) n1 1095233372415 (omega (arith, h0, h1)) (omega (arith, h1, h2))
+    ∙ ap (λ x. (10 * z0 + z1) + 65536 * x) (and_16 (10 * z2 + z3) (10 * z3 + z4) n2 16711935 (omega (arith, h2, h3)) (omega (arith, h3, h4)))
+    ∙ ap (λ x. (10 * z0 + z1) + 65536 * ((10 * z2 + z3) + 65536 * x)) (and_16 (10 * z4 + z5) (10 * z5 + z6) n3 255 (omega (arith, h4, h5)) (omega (arith, h5, h6)))
+    ∙ ap (λ x. (10 * z0 + z1) + 65536 * ((10 * z2 + z3) + 65536 * ((10 * z4 + z5) + 65536 * x))) (and_16 (10 * z6 + z7) (10 * z7) 0 0 (omega (arith, h6, h7)) (omega (arith, h7)) ∙ omega arith)
+
+four_by_four : (a b c d : ℕ) → a < 100 → b < 100 → c < 100 → d < 100
+    → let pairs = a + 65536 * (b + 65536 * (c + 65536 * d)) in
+    bit_and (pairs * 100 + pairs / 65536) 281470681808895 ≡ (100 * a + b) + 4294967296 * (100 * c + d)
+four_by_four a b c d ha hb hc hd =
+    let pairs = a + 65536 * (b + 65536 * (c + 65536 * d)) in
+    let n1 = (100 * c + d) + 65536 * (100 * d) + 4294967296 * 0 in
+    let e : pairs * 100 + pairs / 65536 ≡ (100 * a + b) + 65536 * (100 * b + c) + 4294967296 * n1 = omega (arith, ha) in
+    ap (λ x. bit_and x 281470681808895) e
+    ∙ and_32 (100 * a + b) (100 * b + c) n1 65535 (omega (arith, ha, hb)) (omega (arith, hb, hc))
+    ∙ ap (λ x. (100 * a + b) + 4294967296 * x) (and_32 (100 * c + d) (100 * d) 0 0 (omega (arith, hc, hd)) (omega (arith, hd)) ∙ omega arith)
+
+all_eight : (a b : ℕ) → a < 10000 → b < 10000 → let fours = a + 4294967296 * b in bit_and (fours * 10000 + fours / 4294967296) 4294967295 ≡ 10000 * a + b
+all_eight a b ha hb =
+    let fours = a + 4294967296 * b in
+    let low : bit_and (fours * 10000 + fours / 4294967296) 4294967295 ≡ (fours * 10000 + fours / 4294967296) % 4294967296 = and_mask (fours * 10000 + fours / 4294967296) 32 in
+    low ∙ omega (arith, ha, hb)
+
 of_eight : (z0 z1 z2 z3 z4 z5 z6 z7 : ℕ) → AllSmall (z0 ∷ z1 ∷ z2 ∷ z3 ∷ z4 ∷ z5 ∷ z6 ∷ z7 ∷ [])
     → value_of_pairs (number_l 256 (z0 ∷ z1 ∷ z2 ∷ z3 ∷ z4 ∷ z5 ∷ z6 ∷ z7 ∷ [])) ≡ in_tens 0 (z0 ∷ z1 ∷ z2 ∷ z3 ∷ z4 ∷ z5 ∷ z6 ∷ z7 ∷ [])
 of_eight z0 z1 z2 z3 z4 z5 z6 z7 (h0, (h1, (h2, (h3, (h4, (h5, (h6, (h7, h8)))))))) =
-    let s6 = z6 + 256 * (z7 + 256 * 0) in
-    let s5 = z5 + 256 * s6 in
-    let s4 = z4 + 256 * s5 in
-    let s3 = z3 + 256 * s4 in
-    let s2 = z2 + 256 * s3 in
-    let s1 = z1 + 256 * s2 in
-    let s0 = z0 + 256 * s1 in
-    let e0 : s0 / 256 ≡ s1 = no_first z0 s1 h0 in
-    let v : s0 * 10 + s0 / 256 ≡ s0 * 10 + s1 = ap (λ x. s0 * 10 + x) e0 in
-    let p0 : (s0 * 10 + s1) % 256 ≡ 10 * z0 + z1 = first_pair z0 z1 z2 s3 h0 h1 h2 in
-    let n0 : (s0 * 10 + s1) / 65536 ≡ s2 * 10 + s3 = next_pair z0 z1 z2 s3 h0 h1 h2 in
-    let p1 : (s2 * 10 + s3) % 256 ≡ 10 * z2 + z3 = first_pair z2 z3 z4 s5 h2 h3 h4 in
-    let n1 : (s2 * 10 + s3) / 65536 ≡ s4 * 10 + s5 = next_pair z2 z3 z4 s5 h2 h3 h4 in
-    let p2 : (s4 * 10 + s5) % 256 ≡ 10 * z4 + z5 = first_pair z4 z5 z6 (z7 + 256 * 0) h4 h5 h6 in
-    let n2 : (s4 * 10 + s5) / 65536 ≡ s6 * 10 + (z7 + 256 * 0) = next_pair z4 z5 z6 (z7 + 256 * 0) h4 h5 h6 in
-    let p3 : (s6 * 10 + (z7 + 256 * 0)) % 256 ≡ 10 * z6 + z7 = omega (arith, h6, h7) in
-    let w = s0 * 10 + s1 in
-    let q1 : w / 65536 % 256 ≡ 10 * z2 + z3 = ap (λ x. x % 256) n0 ∙ p1 in
-    let m2 : w / 4294967296 ≡ s4 * 10 + s5 = twice_16 w ∙ ap (λ x. x / 65536) n0 ∙ n1 in
-    let q2 : w / 4294967296 % 256 ≡ 10 * z4 + z5 = ap (λ x. x % 256) m2 ∙ p2 in
-    let m3 : w / 281474976710656 ≡ s6 * 10 + (z7 + 256 * 0) = thrice_16 w ∙ ap (λ x. x / 65536 / 65536) n0 ∙ ap (λ x. x / 65536) n1 ∙ n2 in
-    let q3 : w / 281474976710656 % 256 ≡ 10 * z6 + z7 = ap (λ x. x % 256) m3 ∙ p3 in
-    ap (λ x. ((x % 256 * 100 + x / 65536 % 256) * 100 + x / 4294967296 % 256) * 100 + x / 281474976710656 % 256) v
-    ∙ ap₂ (λ x y. ((x * 100 + y) * 100 + w / 4294967296 % 256) * 100 + w / 281474976710656 % 256) p0 q1
-    ∙ ap₂ (λ x y. (((10 * z0 + z1) * 100 + (10 * z2 + z3)) * 100 + x) * 100 + y) q2 q3
+    let a = 10 * z0 + z1 in
+    let b = 10 * z2 + z3 in
+    let c = 10 * z4 + z5 in
+    let d = 10 * z6 + z7 in
+    let ha : a < 100 = omega (arith, h0, h1) in
+    let hb : b < 100 = omega (arith, h2, h3) in
+    let hc : c < 100 = omega (arith, h4, h5) in
+    let hd : d < 100 = omega (arith, h6, h7) in
+    ap (λ pairs. let fours = bit_and (pairs * 100 + pairs / 65536) 281470681808895 in bit_and (fours * 10000 + fours / 4294967296) 4294967295)
+        (two_by_two z0 z1 z2 z3 z4 z5 z6 z7 (h0, (h1, (h2, (h3, (h4, (h5, (h6, (h7, h8)))))))))
+    ∙ ap (λ fours. bit_and (fours * 10000 + fours / 4294967296) 4294967295) (four_by_four a b c d ha hb hc hd)
+    ∙ all_eight (100 * a + b) (100 * c + d) (omega (arith, ha, hb)) (omega (arith, hc, hd))
     ∙ omega arith
 
 value_of_eight : (zs : List ℕ) → length zs ≡ 8 → AllSmall zs → value_of_pairs (number_l 256 zs) ≡ in_tens 0 zs

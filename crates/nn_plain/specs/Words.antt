@@ -1,5 +1,6 @@
 -- Digits and keys in a word of eight bytes, the least byte first.
-use Rattle.std.specs.Prelude.{◌≡◌, ℕ, ◌<◌, ◌+◌, ◌*◌, ◌/◌, ◌%◌, ◌-◌, List, ◌++◌, length, take, replicate}
+use Rattle.std.specs.Prelude.{◌≡◌, ℕ, ◌<◌, ◌+◌, ◌*◌, ◌/◌, ◌-◌, List, ◌++◌, length, take, replicate}
+use Rattle.std.specs.Int.Bits.{bit_and}
 use Rattle.std.specs.Simd.Lanes.{number_l, Each1}
 use Rattle.std.specs.Str.Parse.{AllDigits, digits_value}
 
@@ -19,8 +20,9 @@ pub record Begins (word : ℕ) (key : List ℕ) : Type 0 where
 abbrev pub high_word : List ℕ → ℕ
 high_word key = number_l 256 (replicate (8 - length key) 0 ++ key)
 
--- What eight digits write, each the number of a byte: pairs first, each in 16 bits.
+-- What eight digits write, each the number of a byte: two by two in lanes of 16 bits, then four by four in lanes of 32.
 abbrev pub value_of_pairs : ℕ → ℕ
 value_of_pairs digits =
-    let pairs = digits * 10 + digits / 256 in
-    ((pairs % 256 * 100 + pairs / 65536 % 256) * 100 + pairs / 4294967296 % 256) * 100 + pairs / 281474976710656 % 256
+    let pairs = bit_and (digits * 10 + digits / 256) 71777214294589695 in
+    let fours = bit_and (pairs * 100 + pairs / 65536) 281470681808895 in
+    bit_and (fours * 10000 + fours / 4294967296) 4294967295

@@ -61,14 +61,15 @@ fn word_value(word: u64, count: usize) -> u64
     pairs_value(digits)
 }
 
+// What eight digits write: two by two, then four by four, then all. Each step works on all lanes of the word at once.
 #[inline(always)]
 fn pairs_value(digits: u64) -> u64
     requires { digits ≤ 0x0f0f_0f0f_0f0f_0f0f }
     ensures { result ≡ value_of_pairs digits }
 {
-    let pairs = digits * 10 + digits / 256;
-    let front = (pairs % 256) * 100 + pairs / 0x1_0000 % 256;
-    (front * 100 + pairs / 0x1_0000_0000 % 256) * 100 + pairs / 0x1_0000_0000_0000 % 256
+    let pairs = (digits * 10 + digits / 256) & 0x00ff_00ff_00ff_00ff;
+    let fours = (pairs * 100 + pairs / 0x1_0000) & 0x0000_ffff_0000_ffff;
+    (fours * 10_000 + fours / 0x1_0000_0000) & 0xffff_ffff
 }
 
 #[inline(always)]

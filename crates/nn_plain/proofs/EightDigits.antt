@@ -80,7 +80,7 @@ of_eight z0 z1 z2 z3 z4 z5 z6 z7 (h0, (h1, (h2, (h3, (h4, (h5, (h6, (h7, h8)))))
     let hc : c < 100 = omega (arith, h4, h5) in
     let hd : d < 100 = omega (arith, h6, h7) in
     ap (λ pairs. let fours = bit_and (pairs * 100 + pairs / 65536) 281470681808895 in bit_and (fours * 10000 + fours / 4294967296) 4294967295)
-        (two_by_two z0 z1 z2 z3 z4 z5 z6 z7 (h0, (h1, (h2, (h3, (h4, (h5, (h6, (h7, h8)))))))))
+    (two_by_two z0 z1 z2 z3 z4 z5 z6 z7 (h0, (h1, (h2, (h3, (h4, (h5, (h6, (h7, h8)))))))))
     ∙ ap (λ fours. bit_and (fours * 10000 + fours / 4294967296) 4294967295) (four_by_four a b c d ha hb hc hd)
     ∙ all_eight (100 * a + b) (100 * c + d) (omega (arith, ha, hb)) (omega (arith, hc, hd))
     ∙ omega arith

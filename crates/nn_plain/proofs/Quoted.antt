@@ -1,7 +1,7 @@
 -- A text in quotes in a line without escapes: its bytes are its content.
 use Rattle.std.proofs.Common.{◌≡◌, ℕ, suc, ◌+◌, ◌-◌, ◌<◌, ◌≤◌, length, get_or, List, [], ◌∷◌, ◌++◌, take, drop, Bool, true, false, cond, not, nat_le, nat_lt, ◌&&◌, ◌||◌, ◌==◌, le-ltb, leb-true, refl, sym, ap, ◌∙◌, arith}
 use Rattle.std.proofs.lemmas.Bool.{ne_eqb, and_parts, or_parts, not-false, not-true, eqb-false, eqb-true, ltb-false}
-use Rattle.std.proofs.lemmas.List.{drop-take, get_or-drop, length-drop, length-take-le, take-append-drop, take-take}
+use Rattle.std.proofs.lemmas.List.{drop-take, get_or-drop, length-append, length-drop, length-take-le, take-append-drop, take-take}
 use Rattle.std.proofs.lemmas.List.Sums.{prefix_len_stops}
 use Rattle.std.proofs.lemmas.List.Folds.{prefix_len-append}
 use Rattle.std.specs.List.{prefix_len}
@@ -111,3 +111,8 @@ between_quotes d from stop first last less =
 
 pub after_quote : (d : List ℕ) (from stop : ℕ) → IsUtf8 d → get_or d from 0 ≡ 34 → from < stop → stop < length d → IsCharBoundary d (from + 1)
 after_quote d from stop text first less within = IsCharBoundary-after_ascii d from text (omega (arith, less, within)) (omega (arith, first))
+
+-- Where the text behind its last quote begins.
+pub behind_quotes : (d s : List ℕ) (from to : ℕ) → to ≤ length d → drop from d ≡ 34 ∷ (s ++ 34 ∷ drop to d) → to ≡ from + 2 + length s
+behind_quotes d s from to within is =
+    omega (arith, within, ap length is, length-drop from d, length-append s (34 ∷ drop to d), length-drop to d)

@@ -239,10 +239,11 @@ fn near_key(text: &str, at: usize, first: bool) -> Option<(Key<'_>, usize)>
     }
     let start = near_start(text, at, first)?;
     let (key, colon) = short_quoted_at(text, start)?;
-    if key.len() > 8 || byte_at(text, colon) != b':' {
+    let bytes = text.as_bytes();
+    if key.len() > 8 || bytes[colon] != b':' {
         return None;
     }
-    let word = word_of_block(text.as_bytes(), start + 1);
+    let word = word_of_block(bytes, start + 1);
     Some((Key { text: key, word }, colon))
 }
 
@@ -256,10 +257,11 @@ fn near_start(text: &str, at: usize, first: bool) -> Option<usize>
     if first {
         return Some(at);
     }
-    if byte_at(text, at) != b',' {
+    let bytes = text.as_bytes();
+    if bytes[at] != b',' {
         return None;
     }
-    if byte_at(text, at + 1) == b' ' {
+    if bytes[at + 1] == b' ' {
         return Some(at + 2);
     }
     Some(at + 1)

@@ -1,5 +1,5 @@
 //! Entries in chunks: where a key stands, and how an entry comes in and goes out.
-ghost use Rattle.std.specs.Prelude.{if◌then◌else◌, is_ok, ◌≡◌, ◌+◌, ◌<◌, ◌≤◌, [], ◌∷◌, ◌++◌, length, None, IfOk, IfErr, IfSome, OnOk, OnErr, not};
+ghost use Rattle.std.specs.Prelude.{if◌then◌else◌, is_ok, true, ◌≡◌, ◌+◌, ◌<◌, ◌≤◌, [], ◌∷◌, ◌++◌, length, None, IfOk, IfErr, IfSome, OnOk, OnErr, not};
 ghost use Rattle.std.specs.Ordering.{is_lt};
 ghost use Rattle.std.specs.List.Sorted.{IsStrictlySortedBy};
 ghost use Rattle.std.specs.List.{insert};
@@ -33,6 +33,9 @@ pub(crate) fn find<K: Ord, V, Q: Seek<K>>(
     ensures found { IfOk result.1 (IsFound (Q.order key) chunks.now result.0) }
     ensures absent { IfErr result.1 (IsAbsent (Q.order key) chunks.now result.0) }
 {
+    if let Some(end) = find_at_end(chunks, key) {
+        return end;
+    }
     if chunks.len() == 1 {
         return (0, place_in(&chunks[0], key));
     }
@@ -44,21 +47,86 @@ pub(crate) fn find<K: Ord, V, Q: Seek<K>>(
     (chunk, place_in(&chunks[chunk], key))
 }
 
-// Where the key stands among these entries, or would go. The last one is looked at first, since keys often ascend.
+// The same, where the key is not below the last entry of all, as keys often ascend.
+fn find_at_end<K: Ord, V, Q: Seek<K>>(
+    chunks: &[Vec<(K, V)>],
+    key: Q,
+) -> Option<(usize, Result<usize, usize>)>
+    requires filled { AreFilled chunks.now }
+    requires order { IsStrictlySortedBy K.cmp (keys_of (flat chunks.now)) }
+    ensures found { IfSome result (λ at. IfOk at.1 (IsFound (Q.order key) chunks.now at.0)) }
+    ensures absent { IfSome result (λ at. IfErr at.1 (IsAbsent (Q.order key) chunks.now at.0)) }
+{
+    let Some(last) = chunks.last() else {
+        return None;
+    };
+    let chunk = chunks.len() - 1;
+    let end = last.len() - 1;
+    match key.compare(&last[end].0) {
+        Ordering::Less => None,
+        Ordering::Equal => Some((chunk, Ok(end))),
+        Ordering::Greater => Some((chunk, Err(end + 1))),
+    }
+}
+
+// What `find` gives, with two looks before the search: at the last entry of all, and at the place that the last search found.
+// Where they fail, the place that is found is noted. What else is done to the chunks makes the note no worse than useless.
+pub(crate) fn find_near<K: Ord, V, Q: Seek<K>>(
+    chunks: &[Vec<(K, V)>],
+    recent: &mut usize,
+    key: Q,
+) -> (usize, Result<usize, usize>)
+    requires filled { AreFilled chunks.now }
+    requires order { IsStrictlySortedBy K.cmp (keys_of (flat chunks.now)) }
+    ensures found { IfOk result.1 (IsFound (Q.order key) chunks.now result.0) }
+    ensures absent { IfErr result.1 (IsAbsent (Q.order key) chunks.now result.0) }
+{
+    let Some(last) = chunks.last() else {
+        return (0, Err(0));
+    };
+    let chunk = chunks.len() - 1;
+    let place = last.len() - 1;
+    if stands(chunks, chunk, place, key) {
+        return (chunk, Ok(place));
+    }
+    let chunk = *recent / FULL;
+    let place = *recent % FULL;
+    if stands(chunks, chunk, place, key) {
+        return (chunk, Ok(place));
+    }
+    let (chunk, place) = find(chunks, key);
+    if let Ok(place) = place {
+        *recent = chunk.wrapping_mul(FULL).wrapping_add(place);
+    }
+    (chunk, place)
+}
+
+// Whether an entry of the key stands at this place.
+fn stands<K: Ord, V, Q: Seek<K>>(
+    chunks: &[Vec<(K, V)>],
+    chunk: usize,
+    place: usize,
+    key: Q,
+) -> bool
+    requires { IsStrictlySortedBy K.cmp (keys_of (flat chunks.now)) }
+    ensures { result ≡ true → IsFound (Q.order key) chunks.now chunk place }
+{
+    let Some(entries) = chunks.get(chunk) else {
+        return false;
+    };
+    let Some(entry) = entries.get(place) else {
+        return false;
+    };
+    key.equals(&entry.0)
+}
+
+// Where the key stands among these entries, or would go.
 fn place_in<K: Ord, V, Q: Seek<K>>(entries: &[(K, V)], key: Q) -> Result<usize, usize>
     ensures found { IfOk result (IsHere (Q.order key) entries.now) }
     ensures absent { IfErr result (λ i. IsAbove (Q.order key) entries.now i × IsBelow (Q.order key) entries.now i) }
 {
-    let Some(last) = entries.last() else {
-        return Err(0);
-    };
     let mut low = 0;
-    let mut high = entries.len() - 1;
-    match key.compare(&last.0) {
-        Ordering::Less => {}
-        Ordering::Equal => return Ok(high),
-        Ordering::Greater => return Err(high + 1),
-    }
+    let mut high = entries.len();
     'halves: while low < high {
         let middle = low + (high - low) / 2;
         match key.compare(&entries[middle].0) {
@@ -70,19 +138,13 @@ fn place_in<K: Ord, V, Q: Seek<K>>(entries: &[(K, V)], key: Q) -> Result<usize, 
     Err(low)
 }
 
-// How many chunks begin at the key or below it. Here too the last one is looked at first.
+// How many chunks begin at the key or below it.
 fn begun<K: Ord, V, Q: Seek<K>>(chunks: &[Vec<(K, V)>], key: Q) -> usize
     requires { AreFilled chunks.now }
     ensures range { result ≤ length chunks.now }
     ensures begun { IsBegun (Q.order key) chunks.now result }
     ensures ahead { IsAhead (Q.order key) chunks.now result }
 {
-    let Some(last) = chunks.last() else {
-        return 0;
-    };
-    if has_begun(last, key) {
-        return chunks.len();
-    }
     let mut low = 0;
     let mut high = chunks.len();
     'halves: while low < high {

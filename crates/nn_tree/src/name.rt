@@ -214,4 +214,8 @@ impl<'a> Seek<Name> for &Wanted<'a> {
     fn compare(&self, key: &Name) -> Ordering {
         self.against(key)
     }
+
+    fn equals(&self, key: &Name) -> bool {
+        key.as_str() == self.text
+    }
 }

@@ -1,11 +1,11 @@
 //! Entries in chunks: where a key stands, and how an entry comes in and goes out.
-ghost use Rattle.std.specs.Prelude.{if◌then◌else◌, is_ok, true, ◌≡◌, ◌+◌, ◌<◌, ◌≤◌, [], ◌∷◌, ◌++◌, length, None, IfOk, IfErr, IfSome, OnOk, OnErr, not};
+ghost use Rattle.std.specs.Prelude.{if◌then◌else◌, is_ok, true, false, ◌≡◌, ◌+◌, ◌<◌, ◌≤◌, [], ◌∷◌, ◌++◌, length, None, IfOk, IfErr, IfSome, OnOk, OnErr, not};
 ghost use Rattle.std.specs.Ordering.{is_lt};
 ghost use Rattle.std.specs.List.Sorted.{IsStrictlySortedBy};
 ghost use Rattle.std.specs.List.{insert};
 ghost use Rattle.std.specs.Map.{keys_of};
 ghost use Rattle.std.specs.Vec.{vec_capacity, vec_len};
-ghost use Rattle.nn_sorted.specs.Chunks.{flat, before, after, AreFilled, HasEntries, IsCut, IsFound, IsAbsent, IsAbove, IsAhead, IsBegun, IsBelow, IsHere, to_first};
+ghost use Rattle.nn_sorted.specs.Chunks.{flat, before, after, AreFilled, HasEntries, IsCut, IsFound, IsAbsent, IsAbove, IsAhead, IsBegun, IsBelow, IsHere, IsSamePlace, to_first};
 
 use crate::seek::Seek;
 use std::alloc::{AllocError, AllocFailed, Global};
@@ -182,23 +182,58 @@ pub(crate) fn put<K: Drop, V: Drop>(
     ensures filled { AreFilled chunks.new.items }
     ensures back { IfErr result (λ refused. refused.value ≡ entry) }
 {
-    if chunk == chunks.len() {
+    if begins_chunk(chunks, chunk, place) {
         return add(chunks, alloc, entry);
     }
-    let len = chunks[chunk].len();
-    if len < FULL {
-        return put_in(chunks, chunk, place, entry);
-    }
-    if place == len && chunk + 1 == chunks.len() {
-        return add(chunks, alloc, entry);
-    }
-    let Ok(()) = cut(chunks, chunk) else {
+    let Ok((chunk, place)) = make_place(chunks, chunk, place) else {
         return Err(AllocFailed { value: entry });
     };
-    if place <= HALF {
-        return put_in(chunks, chunk, place, entry);
+    put_in(chunks, chunk, place, entry)
+}
+
+// Whether an entry that comes to this place begins a chunk: all others stand before it, and the last chunk is full.
+fn begins_chunk<K, V>(chunks: &[Vec<(K, V)>], chunk: usize, place: usize) -> bool
+    requires in_chunks { chunk ≤ length chunks.now }
+    requires in_chunk { HasEntries chunks.now chunk place }
+    ensures behind { result ≡ true → (before chunks.now chunk place ≡ flat chunks.now) × (after chunks.now chunk place ≡ []) }
+    ensures within { result ≡ false → chunk < length chunks.now }
+{
+    let Some(entries) = chunks.get(chunk) else {
+        return true;
+    };
+    let len = entries.len();
+    if len < FULL {
+        return false;
     }
-    put_in(chunks, chunk + 1, place - HALF, entry)
+    if place < len {
+        return false;
+    }
+    chunk + 1 == chunks.len()
+}
+
+// Where an entry goes that comes to this place. A full chunk is cut in two first.
+fn make_place<K: Drop, V: Drop>(
+    chunks: &mut Vec<Vec<(K, V)>>,
+    chunk: usize,
+    place: usize,
+) -> Result<(usize, usize), AllocError>
+    requires in_chunks { chunk < length chunks.old.items }
+    requires in_chunk { HasEntries chunks.old.items chunk place }
+    requires filled { AreFilled chunks.old.items }
+    ensures ok { IfOk result (λ at. IsSamePlace chunks.old.items chunk place chunks.new.items at.0 at.1) }
+    ensures err { OnErr result (chunks.new.items ≡ chunks.old.items) }
+    ensures filled { AreFilled chunks.new.items }
+{
+    if chunks[chunk].len() < FULL {
+        return Ok((chunk, place));
+    }
+    let Ok(()) = cut(chunks, chunk) else {
+        return Err(AllocError);
+    };
+    if place <= HALF {
+        return Ok((chunk, place));
+    }
+    Ok((chunk + 1, place - HALF))
 }
 
 // Puts an entry at a place of a chunk.

@@ -166,11 +166,11 @@ impl<K: Ord + Drop, V: Drop> SortedMap<K, V> {
         ensures value { option_copied_mut result ≡ value_by (Q.order key) self.old }
         ensures ordered { IsStrictlySortedBy K.cmp (keys_of self.old) }
     {
-        let (chunk, place) = find_near(&self.chunks, &mut self.recent, key);
+        let (near, place) = find_near(&self.chunks, &mut self.recent, key);
         let Ok(place) = place else {
             return None;
         };
-        Some(&mut self.chunks[chunk][place].1)
+        Some(&mut self.chunks[near][place].1)
     }
 
     /// Puts a value at a key, and gives the one that was there, if any: then the key that was there stays. O(log entries), and

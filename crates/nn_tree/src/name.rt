@@ -216,6 +216,6 @@ impl<'a> Seek<Name> for &Wanted<'a> {
     }
 
     fn equals(&self, key: &Name) -> bool {
-        key.as_str() == self.text
+        self.text == key.as_str()
     }
 }

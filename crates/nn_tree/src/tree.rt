@@ -296,7 +296,7 @@ impl Tree {
         if begins_with(dst, src) {
             return Err(Unchanged);
         }
-        let Ok(()) = self.make(alloc, dst, Tree::new_dir(alloc)) else {
+        let Ok(()) = self.make_dir(alloc, dst) else {
             self.recall_invariant();
             return Err(Unchanged);
         };

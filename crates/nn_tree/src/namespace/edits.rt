@@ -62,10 +62,7 @@ impl Namespace {
         let Some(sizes) = self.sizes.with_directory() else {
             return Err(Unchanged);
         };
-        let Ok(()) = self
-            .root
-            .make(self.alloc, &path.names(), Tree::new_dir(self.alloc))
-        else {
+        let Ok(()) = self.root.make_dir(self.alloc, &path.names()) else {
             return Err(Unchanged);
         };
         self.sizes = sizes;

@@ -1,6 +1,7 @@
 //! Trees that are put into a tree, and taken out.
 ghost use Rattle.std.specs.Prelude.{◌≡◌, ⊤, IfOk, true, false, [], ◌∷◌, length, ◌<◌, Some, None, OnOk, OnErr, IfSome, IsSome};
 ghost use Rattle.nn_model.specs.Apply.{walk};
+ghost use Rattle.nn_model.specs.declared.form.Form.TheVariants.{Dir};
 ghost use Rattle.nn_tree.specs.At.{at, IsSubtree, IsGrafted, IsSame};
 ghost use Rattle.nn_tree.specs.Changes.{IsMade, IsTaken};
 
@@ -27,6 +28,17 @@ impl Tree {
             return Err(Unchanged);
         }
         self.change_at(names, Make { alloc, tree })
+    }
+
+    /// Makes a directory at a path where nothing stands, in a directory.
+    pub(crate) fn make_dir(&mut self, alloc: Global, names: &Names<'_>) -> Result<(), Unchanged>
+        ensures ok { OnOk result (IsMade self.old names.now (([], Dir) ∷ []) self.new) }
+        ensures err { OnErr result (IsSame self.old self.new) }
+    {
+        if names.is_empty() {
+            return Err(Unchanged);
+        }
+        self.change_at(names, MakeDir { alloc })
     }
 
     /// Takes out what stands at the path.
@@ -159,6 +171,33 @@ impl Change for Make {
     fn change(self, dir: &mut Tree, last: Option<&str>) -> Result<(), Unchanged> {
         let Some(name) = last else { unreachable!() };
         let made = dir.add(self.alloc, name, self.tree);
+        dir.recall_invariant();
+        made
+    }
+}
+
+// Puts an empty directory into the directory, under the last name. A walk has nothing to carry then.
+#[derive(Drop)]
+struct MakeDir {
+    alloc: Global,
+}
+
+impl Change for MakeDir {
+    type Gives = ();
+
+    ghost in_parent = { true };
+
+    ghost changes = { λ c rest t w given. IsMade t rest (([], Dir) ∷ []) w };
+
+    ghost refuses = { λ c rest t. ⊤ };
+
+    fn is_in_parent() -> bool {
+        true
+    }
+
+    fn change(self, dir: &mut Tree, last: Option<&str>) -> Result<(), Unchanged> {
+        let Some(name) = last else { unreachable!() };
+        let made = dir.add(self.alloc, name, Tree::new_dir(self.alloc));
         dir.recall_invariant();
         made
     }

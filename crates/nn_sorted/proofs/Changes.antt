@@ -121,19 +121,7 @@ module _ {X : Type 0} where
   added_behind (Ok u) cs ds c p e t h = h ∙ (λ i. sym t.0 i ++ e ∷ sym t.1 i)
   added_behind (Err u) cs ds c p e t h = tt
 
-  -- the same place where nothing was cut, and in the halves of a chunk that was
-  pub same_there : (cs : List (Vec X)) (c p : ℕ) → c < length cs → HasEntries cs c p → IsSamePlace cs c p cs c p
-  same_there cs c p l e = record { in_chunks = l; in_chunk = e; front = refl; behind = refl }
-
-  pub same_in_low : (cs ds : List (Vec X)) (c p n : ℕ) → IsCut cs c n ds → c < length cs → p ≤ n → IsSamePlace cs c p ds c p
-  same_in_low cs ds c p n h l le = let t = h.low p le in record { in_chunks = omega (arith, l, h.longer); in_chunk = t.0; front = t.1; behind = t.2 }
-
-  pub same_in_high : (cs ds : List (Vec X)) (c p n d r : ℕ) → IsCut cs c n ds → c < length cs → HasEntries cs c p → n + r ≡ p → suc c ≡ d → IsSamePlace cs c p ds d r
-  same_in_high cs ds c p n d r h l e same next =
-      let t = h.high r (subst (HasEntries cs c) (sym same) e) in
-      subst (λ k. IsSamePlace cs c p ds k r) next
-      (record { in_chunks = omega (arith, l, h.longer); in_chunk = t.0; front = t.1 ∙ ap (before cs c) same; behind = t.2 ∙ ap (after cs c) same })
-
+  -- at the same place in other chunks
   pub same_entries : (cs ds : List (Vec X)) (c p d r : ℕ) → IsSamePlace cs c p ds d r → flat ds ≡ flat cs
   same_entries cs ds c p d r h = sym (joined ds d r) ∙ (λ i. h.front i ++ h.behind i) ∙ joined cs c p
 

@@ -5,4 +5,4 @@ use Rattle.nn_tree.proofs.name.RefWantedSeekName.equals.Goals as goal
 
 pub returns : goal.returns
 returns c =
-    c.eq.ensures ∙ (λ i. bytes_eq (c.self.view_is i) (c.as_str.ensures i)) ∙ sym (is_eq-slice_cmp c.args.self.now.now c.args.key.now)
+    c.eq.ensures ∙ (λ i. bytes_eq (c.self.view_is i).now (c.as_str.ensures i)) ∙ sym (is_eq-slice_cmp c.args.self.now.now c.args.key.now)

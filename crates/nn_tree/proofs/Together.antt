@@ -1,10 +1,9 @@
 -- A rename in a child of a directory, as the directory sees it.
-use Rattle.std.proofs.Common.{◌≡◌, inl, inr, ℕ, suc, Bool, true, false, cond, not, ◌&&◌, length, drop, arith, List, [], ◌∷◌, ◌++◌, Option, Some, None, refl, sym, ap, ◌∙◌}
+use Rattle.std.proofs.Common.{◌≡◌, inl, inr, ℕ, suc, false, cond, not, ◌&&◌, length, drop, arith, List, [], ◌∷◌, ◌++◌, Some, None, refl, sym, ap, ◌∙◌}
 use Rattle.std.specs.Prelude.{nat_lt}
 use Rattle.std.specs.Str.{bytes_eq}
 use Rattle.std.proofs.lemmas.Bool.{both_ways, cases_Bool, false_from_ne_true, lt-ltb, ltb-true}
 use Rattle.nn_types.specs.declared.edit_fault.EditFault.TheVariants.{IntoItself}
-use Rattle.nn_model.specs.declared.form.Form.{Form}
 use Rattle.nn_model.specs.Namespace.{Path, begins_with}
 use Rattle.nn_model.specs.Apply.{first_fault, fault_if, walk, is_root, missing, exists}
 use Rattle.nn_model.proofs.Dues.{all_none}

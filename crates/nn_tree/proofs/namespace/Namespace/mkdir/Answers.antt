@@ -1,12 +1,10 @@
-use Rattle.std.proofs.Common.{◌≡◌, List, Some, None, sym, subst, ◌∙◌, refl, ap}
+use Rattle.std.proofs.Common.{◌≡◌, None, sym, subst, ◌∙◌, refl, ap}
 use Rattle.nn_types.specs.declared.edit.Edit.TheVariants as edit
 use Rattle.nn_model.specs.declared.form.Form.TheVariants.{Dir}
-use Rattle.nn_model.specs.Namespace.{Namespace, Path}
+use Rattle.nn_model.specs.Namespace.{Namespace}
 use Rattle.nn_model.specs.Apply.{refusal, effect}
-use Rattle.nn_model.specs.declared.form.Form.{Form}
 use Rattle.nn_sorted.specs.Values.{value_at}
 use Rattle.std.specs.Ordering.{nat_cmp}
-use Rattle.nn_tree.specs.At.{IsGrafted}
 use Rattle.nn_tree.specs.View.{seen, Holds}
 use Rattle.nn_tree.specs.Walks.{mkdir_fault}
 use Rattle.nn_tree.proofs.Bridge.{looks}

@@ -1,7 +1,5 @@
-use Rattle.std.proofs.Common.{◌≡◌, [], List, IsSome, Some, None, sym, subst, refl, ap, ◌∙◌}
-use Rattle.nn_model.specs.declared.form.Form.{Form}
-use Rattle.nn_model.specs.Namespace.{Path}
-use Rattle.nn_tree.specs.At.{at, IsGrafted}
+use Rattle.std.proofs.Common.{◌≡◌, IsSome, None, sym, subst, refl, ◌∙◌}
+use Rattle.nn_tree.specs.At.{at}
 use Rattle.nn_tree.specs.Walks.{rename_fault}
 use Rattle.nn_tree.proofs.Changed.{move_applies, made_undone}
 use Rattle.nn_tree.proofs.Files.{at_found}

@@ -3,13 +3,14 @@ ghost use Rattle.std.specs.Prelude.{◌≡◌, ⊤, IfOk, true, false, [], ◌�
 ghost use Rattle.nn_model.specs.Apply.{walk};
 ghost use Rattle.nn_model.specs.declared.form.Form.TheVariants.{Dir};
 ghost use Rattle.nn_tree.specs.At.{at, IsSubtree, IsGrafted, IsSame};
-ghost use Rattle.nn_tree.specs.Changes.{IsMade, IsTaken};
+ghost use Rattle.nn_tree.specs.Changes.{IsMade, IsTaken, open_file};
 
 use super::descent::Change;
 use super::{Node, Tree, Unchanged};
 use crate::name::{Name, Wanted};
+use nn_model::FileRow;
 use nn_sorted::SortedMap;
-use nn_types::Names;
+use nn_types::{Blocks, Names, Replication};
 use std::alloc::Global;
 use std::mem;
 
@@ -39,6 +40,22 @@ impl Tree {
             return Err(Unchanged);
         }
         self.change_at(names, MakeDir { alloc })
+    }
+
+    /// Makes an open file without blocks at a path where nothing stands, in a directory.
+    pub(crate) fn make_file(
+        &mut self,
+        alloc: Global,
+        names: &Names<'_>,
+        replication: Replication,
+    ) -> Result<(), Unchanged>
+        ensures ok { OnOk result (IsMade self.old names.now (open_file replication) self.new) }
+        ensures err { OnErr result (IsSame self.old self.new) }
+    {
+        if names.is_empty() {
+            return Err(Unchanged);
+        }
+        self.change_at(names, MakeFile { alloc, replication })
     }
 
     /// Takes out what stands at the path.
@@ -200,6 +217,46 @@ impl Change for MakeDir {
         let made = dir.add(self.alloc, name, Tree::new_dir(self.alloc));
         dir.recall_invariant();
         made
+    }
+}
+
+// The same with an open file that has no blocks.
+#[derive(Drop)]
+struct MakeFile {
+    alloc: Global,
+    replication: Replication,
+}
+
+impl Change for MakeFile {
+    type Gives = ();
+
+    ghost in_parent = { true };
+
+    ghost changes = { λ c rest t w given. IsMade t rest (open_file c.replication) w };
+
+    ghost refuses = { λ c rest t. ⊤ };
+
+    fn is_in_parent() -> bool {
+        true
+    }
+
+    fn change(self, dir: &mut Tree, last: Option<&str>) -> Result<(), Unchanged> {
+        let Some(name) = last else { unreachable!() };
+        let file = empty_file(self.alloc, self.replication);
+        let made = dir.add(self.alloc, name, Tree::new_file(file));
+        dir.recall_invariant();
+        made
+    }
+}
+
+// An open file with no blocks.
+fn empty_file(alloc: Global, replication: Replication) -> FileRow
+    ensures { result ≡ record { replication = replication; closed = false; blocks = [] } }
+{
+    FileRow {
+        replication,
+        closed: false,
+        blocks: Blocks::new(alloc),
     }
 }
 

@@ -1,5 +1,5 @@
 -- A rename in a child of a directory, as the directory sees it.
-use Rattle.std.proofs.Common.{◌≡◌, inl, inr, ℕ, suc, true, false, cond, not, ◌&&◌, length, drop, arith, List, [], ◌∷◌, ◌++◌, Some, None, refl, sym, ap, ◌∙◌}
+use Rattle.std.proofs.Common.{◌≡◌, inl, inr, ℕ, suc, false, cond, not, ◌&&◌, length, drop, arith, List, [], ◌∷◌, ◌++◌, Some, None, refl, sym, ap, ◌∙◌}
 use Rattle.std.specs.Prelude.{nat_lt}
 use Rattle.std.specs.Str.{bytes_eq}
 use Rattle.std.proofs.lemmas.Bool.{both_ways, cases_Bool, false_from_ne_true, lt-ltb, ltb-true}

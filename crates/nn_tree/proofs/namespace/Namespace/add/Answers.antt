@@ -1,13 +1,10 @@
-use Rattle.std.proofs.Common.{◌≡◌, false, not, List, [], ◌∷◌, Some, None, sym, ap, subst, ◌∙◌, refl}
+use Rattle.std.proofs.Common.{◌≡◌, false, not, [], None, sym, ap, subst, ◌∙◌, refl}
 use Rattle.nn_types.specs.declared.edit.Edit.TheVariants as edit
 use Rattle.nn_model.specs.declared.form.Form.TheVariants.{File}
-use Rattle.nn_model.specs.declared.form.FileRow.{FileRow}
-use Rattle.nn_model.specs.Namespace.{Namespace, Path}
+use Rattle.nn_model.specs.Namespace.{Namespace}
 use Rattle.nn_model.specs.Apply.{refusal, effect}
-use Rattle.nn_model.specs.declared.form.Form.{Form}
 use Rattle.nn_sorted.specs.Values.{value_at}
 use Rattle.std.specs.Ordering.{nat_cmp}
-use Rattle.nn_tree.specs.At.{IsGrafted}
 use Rattle.nn_tree.specs.View.{seen, Holds}
 use Rattle.nn_tree.proofs.Applies.{add_applies}
 use Rattle.nn_tree.proofs.Kept.{still_seen, still_held, made, add_kept, mkdir_free, add_mkdir}

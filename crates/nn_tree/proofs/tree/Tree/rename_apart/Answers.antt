@@ -1,4 +1,4 @@
-use Rattle.std.proofs.Common.{◌≡◌, IsSome, None, sym, subst, refl, ◌∙◌}
+use Rattle.std.proofs.Common.{◌≡◌, IsSome, None, sym, subst, refl}
 use Rattle.nn_tree.specs.At.{at}
 use Rattle.nn_tree.specs.Walks.{rename_fault}
 use Rattle.nn_tree.proofs.Changed.{move_applies, made_undone}

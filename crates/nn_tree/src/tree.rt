@@ -301,7 +301,7 @@ impl Tree {
             return Err(Unchanged);
         };
         let _found = tree.top();
-        let _placeholder = self.put(dst, tree);
+        self.put(dst, tree);
         self.recall_invariant();
         Ok(())
     }

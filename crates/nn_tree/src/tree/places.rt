@@ -71,16 +71,14 @@ impl Tree {
         Some(tree)
     }
 
-    /// Puts a tree in place of what stands at the path, and gives that back.
-    pub(crate) fn put(&mut self, names: &Names<'_>, tree: Tree) -> Tree
+    /// Puts a tree in place of what stands at the path.
+    pub(crate) fn put(&mut self, names: &Names<'_>, tree: Tree)
         requires { IsSome (at self.old names.now) }
-        ensures old { IsSubtree self.old names.now (Some result) }
-        ensures new { IsGrafted self.old names.now (Some tree) self.new }
+        ensures { IsGrafted self.old names.now (Some tree) self.new }
     {
-        let Ok(before) = self.change_at(names, Put { tree }) else {
+        let Ok(()) = self.change_at(names, Put { tree }) else {
             unreachable!()
         };
-        before
     }
 
     // Puts a tree into a directory, under a name that no child has.
@@ -294,11 +292,11 @@ struct Put {
 }
 
 impl Change for Put {
-    type Gives = Tree;
+    type Gives = ();
 
     ghost in_parent = { false };
 
-    ghost changes = { λ c rest t w given. (rest ≡ []) × (given ≡ t) × (w ≡ c.tree) };
+    ghost changes = { λ c rest t w given. (rest ≡ []) × (w ≡ c.tree) };
 
     ghost refuses = { λ c rest t. ⊥ };
 
@@ -306,8 +304,9 @@ impl Change for Put {
         false
     }
 
-    fn change(self, tree: &mut Tree, _last: Option<&str>) -> Result<Tree, Unchanged> {
+    fn change(self, tree: &mut Tree, _last: Option<&str>) -> Result<(), Unchanged> {
         self.tree.recall_invariant();
-        Ok(mem::replace(tree, self.tree))
+        let _before = mem::replace(tree, self.tree);
+        Ok(())
     }
 }

@@ -23,7 +23,7 @@ impl Tree {
         ensures ok { IfOk result (λ replication. IsFileChanged self.old names.now self.new (GetsBlock block replication)) }
         ensures err { OnErr result (IsSame self.old self.new) }
     {
-        self.change_at(names, PushBlock { block })
+        self.change_at(names, PushBlock { block: &block })
     }
 
     /// Gives an open file another list of blocks, and tells what that touched and the list before.
@@ -38,13 +38,13 @@ impl Tree {
         ensures ok { IfOk result (λ done. IsFileChanged self.old names.now self.new (GetsList blocks.now closed last_stamp done)) }
         ensures err { OnErr result (IsSame self.old self.new) }
     {
-        let change = SetBlocks {
+        let list = NewList {
             alloc,
             blocks,
             closed,
             last_stamp,
         };
-        self.change_at(names, change)
+        self.change_at(names, SetBlocks { list: &list })
     }
 
     /// Opens a closed file, and tells what that touched and its blocks.
@@ -73,22 +73,24 @@ impl Tree {
     }
 }
 
-// The change of `Tree::push_block`.
+// The change of `Tree::push_block`. What is lent, a walk need not carry.
 #[derive(Drop)]
-struct PushBlock {
-    block: Block,
+struct PushBlock<'a> {
+    block: &'a Block,
 }
 
-impl Change for PushBlock {
+impl<'a> Change for PushBlock<'a> {
     type Gives = Replication;
 
     ghost in_parent = { false };
 
-    ghost changes = { λ c rest t w given. FileBecomes (GetsBlock c.block given) rest t w };
+    ghost changes = { λ c rest t w given. FileBecomes (GetsBlock c.block.now given) rest t w };
 
     ghost refuses = { λ c rest t. ⊤ };
 
-    fn is_in_parent() -> bool {
+    fn is_in_parent() -> bool
+        ensures { result ≡ false }
+    {
         false
     }
 
@@ -96,17 +98,23 @@ impl Change for PushBlock {
         let Node::Leaf(file) = &mut tree.node else {
             return Err(Unchanged);
         };
-        push_open(file, self.block)
+        push_open(file, *self.block)
     }
+}
+
+// The list that a file gets, and what it is checked by.
+#[derive(Clone, Copy)]
+struct NewList<'a> {
+    alloc: Global,
+    blocks: &'a Blocks,
+    closed: bool,
+    last_stamp: GenerationStamp,
 }
 
 // The change of `Tree::set_blocks`.
 #[derive(Drop)]
 struct SetBlocks<'a> {
-    alloc: Global,
-    blocks: &'a Blocks,
-    closed: bool,
-    last_stamp: GenerationStamp,
+    list: &'a NewList<'a>,
 }
 
 impl<'a> Change for SetBlocks<'a> {
@@ -114,7 +122,7 @@ impl<'a> Change for SetBlocks<'a> {
 
     ghost in_parent = { false };
 
-    ghost changes = { λ c rest t w given. FileBecomes (GetsList c.blocks.now c.closed c.last_stamp given) rest t w };
+    ghost changes = { λ c rest t w given. FileBecomes (GetsList c.list.now.blocks.now c.list.now.closed c.list.now.last_stamp given) rest t w };
 
     ghost refuses = { λ c rest t. ⊤ };
 
@@ -128,7 +136,8 @@ impl<'a> Change for SetBlocks<'a> {
         let Node::Leaf(file) = &mut tree.node else {
             return Err(Unchanged);
         };
-        list_open(self.alloc, file, self.blocks, self.closed, self.last_stamp)
+        let list = self.list;
+        list_open(list.alloc, file, list.blocks, list.closed, list.last_stamp)
     }
 }
 

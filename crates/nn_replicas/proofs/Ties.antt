@@ -19,7 +19,7 @@ use Rattle.nn_model.specs.declared.form.BlockRow.{BlockRow}
 use Rattle.nn_model.specs.Namespace.{Path, Namespace, all_blocks}
 use Rattle.nn_model.specs.Blocks.{block_row, block_rows_of, block_rows}
 use Rattle.nn_model.specs.WellFormed.{Includes, times, HasWellFormedBlocks}
-use Rattle.nn_model.specs.Counts.{class_of, is_live, live_count, closed_blocks_of, closed_blocks}
+use Rattle.nn_model.specs.Counts.{class_of, is_live, live_count, closed_blocks_of, closed_blocks, total_of, safe_mode_from, safe_mode_of}
 use Rattle.nn_model.proofs.InRows.{all_in, has_left, has_right}
 use Rattle.nn_model.proofs.Members.{rows_in, blocks_of_all}
 use Rattle.nn_replicas.specs.declared.entry.Cell.{Cell}
@@ -361,3 +361,24 @@ module _ (datanodes : ℕ) (n : Namespace) (t : Replicas) (well : HasWellFormedB
 
 pub counts_agree : CountsAgree
 counts_agree datanodes n t well shows = counts datanodes n t well shows
+
+-- ---- more DataNodes
+
+-- a table of so many DataNodes is one of more
+pub shows_more : (few many : ℕ) (n : Namespace) (t : Replicas) → few ≤ many → Shows few n t → Shows many n t
+shows_more few many n t more s = record {
+  in_order = s.in_order;
+  rows = s.rows;
+  replications = s.replications;
+  datanodes = λ dn id here. let within = s.datanodes dn id here in (within.0, omega (arith, within.1, more));
+}
+
+-- and has as many live replicas
+pub live_more : (few many : ℕ) (n : Namespace) (t : Replicas) → HasWellFormedBlocks n → few ≤ many → Shows few n t → (b : Block) → live_count many (replica_at t) b ≡ live_count few (replica_at t) b
+live_more few many n t well more s b = sym (live_here many n t well (shows_more few many n t more s) b.id b refl) ∙ live_here few n t well s b.id b refl
+
+-- and is as safe
+pub safe_mode_more : (few many permille min : ℕ) (n : Namespace) (t : Replicas) → HasWellFormedBlocks n → few ≤ many → Shows few n t
+    → safe_mode_of many permille min n (replica_at t) ≡ safe_mode_of few permille min n (replica_at t)
+safe_mode_more few many permille min n t well more s =
+    λ i. safe_mode_from permille (total_of n) (length (filter (λ b. nat_le min (live_more few many n t well more s b i)) (closed_blocks n)))

@@ -261,7 +261,7 @@ nothing_here (suc lanes) (suc place) = nothing_here lanes place
 
 -- ---- a standby that begins
 
-all_zero : (lanes dn : ℕ) → last_number_in (replicate lanes 0) dn ≡ 0
+pub all_zero : (lanes dn : ℕ) → last_number_in (replicate lanes 0) dn ≡ 0
 all_zero lanes zero = refl
 all_zero lanes (suc place) = no_number lanes place
 

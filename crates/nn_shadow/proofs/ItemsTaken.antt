@@ -230,7 +230,7 @@ had_sound x hs is c = record {
   settled = c.settled;
 }
 
-lane_of : (n dn : ℕ) → is_lane n dn ≡ true → (1 ≤ dn) × (dn ≤ n)
+pub lane_of : (n dn : ℕ) → is_lane n dn ≡ true → (1 ≤ dn) × (dn ≤ n)
 lane_of n dn lane = let l = and_parts (nat_le 1 dn) (nat_le dn n) lane in (leb-true 1 dn l.0, leb-true dn n l.1)
 
 pub had_at : (hs : List NodeState) (dn : ℕ) → 1 ≤ dn → get_or hs (dn - 1) nothing_known ≡ node_state_in hs dn

@@ -55,7 +55,8 @@ impl<'a> ReadyUnsafe<'a> {
     /// Those of a standby. The extent is that of its namespace.
     pub fn of(standby: &'a Shadow, extent: Extent) -> Result<ReadyUnsafe<'a>, AllocError>
         requires { extent ≡ extent_of standby.now.namespace.rows }
-        ensures { IfOk result (λ lines. lines ≡ unsafe_text (length standby.now.numbers) standby.now.table.min (replica_at standby.now.table) standby.now.namespace.rows) }
+        ensures { (datanodes : ℕ) → length standby.now.numbers ≤ datanodes
+            → IfOk result (λ lines. lines ≡ unsafe_text datanodes standby.now.table.min (replica_at standby.now.table) standby.now.namespace.rows) }
     {
         standby.recall_invariant();
         let rows = standby.namespace().ready_rows(extent.depth)?;

@@ -1,5 +1,5 @@
 //! What an operator reads of a standby, a line for each figure.
-ghost use Rattle.std.specs.Prelude.{◌≡◌, length, flat_map, decimal};
+ghost use Rattle.std.specs.Prelude.{◌≡◌, ◌≤◌, ℕ, length, flat_map, decimal};
 ghost use Rattle.nn_model.specs.Lanes.{Lanes};
 ghost use Rattle.nn_shadow.specs.Contents.{standby_of};
 ghost use Rattle.nn_device.specs.Page.{PutsPiece};
@@ -18,8 +18,8 @@ use std::io::Write;
 /// count, and safe mode. It takes no memory, and a time that grows with the greatest DataNode that sent a message alone.
 pub fn put_summary<W: Write>(page: &mut Page, writer: &mut Writer<W>, shadow: &Shadow)
     ensures seen { PutsPiece (summary_text (summary_seen shadow.now)) page.old writer.old page.new writer.new }
-    ensures said { (lanes : Lanes) → IsOfSaid (length shadow.now.numbers) shadow.now.namespace lanes shadow.now.table
-        → PutsPiece (summary_text (summary_of (length shadow.now.numbers) shadow.now.permille shadow.now.table.min lanes (standby_of shadow.now))) page.old writer.old page.new writer.new }
+    ensures said { (datanodes : ℕ) (lanes : Lanes) → length shadow.now.numbers ≤ datanodes → IsOfSaid datanodes shadow.now.namespace lanes shadow.now.table
+        → PutsPiece (summary_text (summary_of datanodes shadow.now.permille shadow.now.table.min lanes (standby_of shadow.now))) page.old writer.old page.new writer.new }
 {
     shadow.recall_invariant();
     put_count(page, writer, "txid", shadow.last_txid().get());

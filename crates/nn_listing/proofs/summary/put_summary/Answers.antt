@@ -37,6 +37,6 @@ returns-clause-seen g c =
     subst (λ s. PutsPiece (summary_text s) c.args.page.now c.args.writer.now c.put_counts.new.page c.put_counts.new.writer) same put
 
 pub returns-clause-said : goal.returns-clause-said
-returns-clause-said g c lanes said =
-    subst (λ s. PutsPiece (summary_text s) c.args.page.now c.args.writer.now c.put_counts.new.page c.put_counts.new.writer) (summary_is c.args.shadow.now lanes c.recall_invariant.ensures said)
+returns-clause-said g c datanodes lanes more said =
+    subst (λ text. PutsPiece text c.args.page.now c.args.writer.now c.put_counts.new.page c.put_counts.new.writer) (summary_is c.args.shadow.now datanodes lanes c.recall_invariant.ensures more said)
     (returns-clause-seen g c)

@@ -2,6 +2,7 @@ use Rattle.std.proofs.Common.{rules, ◌≡◌, ◌≤◌, length, sym, ap, ◌�
 use Rattle.nn_model.specs.Namespace.{Namespace}
 use Rattle.nn_replicas.specs.Calls.{replica_at, live_at}
 use Rattle.nn_replicas.specs.SafeMode.{counts_of}
+use Rattle.nn_replicas.proofs.Ties.{shows_more}
 use Rattle.nn_tree.specs.Rows.{greatest_depth}
 use Rattle.nn_listing.specs.Safety.{unsafe_lines}
 use Rattle.nn_listing.proofs.Lives.{joined, lines_are, unsafe_count}
@@ -20,8 +21,9 @@ invariant_of-result c =
     )
 
 pub returns : goal.returns
-returns c =
+returns c datanodes more =
     let x = c.args.standby.now in
     let rows : c.in_ok-rows.rows.left ≡ x.namespace.rows = c.in_ok-rows.ensures.left ∙ ap (λ (n : Namespace). n.rows) c.namespace.ensures in
+    let shows = shows_more (length x.numbers) datanodes x.namespace x.table more c.recall_invariant.ensures.shows in
     (λ j. joined (unsafe_lines (c.replicas.ensures j).min (live_at (c.replicas.ensures j)) (rows j)))
-    ∙ ap joined (lines_are (length x.numbers) x.namespace x.table c.recall_invariant.ensures.shows x.table.min x.namespace.rows)
+    ∙ ap joined (lines_are datanodes x.namespace x.table shows x.table.min x.namespace.rows)

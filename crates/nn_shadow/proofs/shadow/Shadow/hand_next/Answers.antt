@@ -72,6 +72,9 @@ done c =
     (ap (λ n. n - 1) c.from-lane.ensures) (had_at hs i c.index_mut-had.result.now c.index_mut-had.ensures.value)
     c.in-Ok.ensures.had c.in-Ok.ensures.apart c.in-Ok.ensures.ok (set_at hs i new c.index_mut.result.now c.index_mut.ensures.value) c.note_message.ensures))
 
+pub take_items-requires-clause-shows : goal.take_items-requires-clause-shows
+take_items-requires-clause-shows c = (length c.self.inside.numbers, c.self.invariant.shows)
+
 pub set-requires-clause-place : goal.set-requires-clause-place
 set-requires-clause-place c = lane_of (length c.self.inside.numbers) c.args.message.dn
     (no_refusal_hands (length c.self.inside.numbers) (the_view c.self.inside).phase (standby_of (the_view c.self.inside)) c.args.message

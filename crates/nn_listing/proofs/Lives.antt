@@ -1,91 +1,35 @@
 -- Blocks that have too few live replicas.
-use Rattle.std.proofs.Common.{◌≡◌, ℕ, zero, suc, ◌+◌, ◌-◌, ◌≤◌, ◌<◌, ◌^◌, Bool, true, false, cond, List, [], ◌∷◌, ◌++◌, Option, Some, None, length, take, refl, sym, subst, ap, ap₂, ◌∙◌, arith, append_assoc, append-nil, length-append}
-use Rattle.std.specs.Prelude.{codes, decimal, filter, flat_map, nat_le, option_map}
-use Rattle.std.specs.List.{cons_option}
+use Rattle.std.proofs.Common.{◌≡◌, ℕ, zero, suc, ◌+◌, ◌-◌, ◌≤◌, ◌<◌, Bool, true, false, cond, List, [], ◌∷◌, ◌++◌, Option, length, take, refl, sym, subst, ap, ap₂, ◌∙◌, arith, append_assoc, append-nil, length-append}
+use Rattle.std.specs.Prelude.{codes, decimal, filter, flat_map, nat_le}
 use Rattle.std.proofs.lemmas.Bool.{le-leb, lt-leb}
 use Rattle.std.proofs.lemmas.List.Elements.{filter-append}
 use Rattle.nn_bytes.specs.Lines.{line_feed}
 use Rattle.nn_types.specs.declared.block.Block.{Block}
 use Rattle.nn_types.specs.declared.replica.Replica.{Replica}
-use Rattle.nn_model.specs.Counts.{SafeMode, closed_blocks_of, is_live, live_count, live_up_to, safe_mode_of}
+use Rattle.nn_model.specs.Counts.{SafeMode, closed_blocks_of, live_count, safe_mode_of}
 use Rattle.nn_model.specs.Namespace.{Namespace, Path}
 use Rattle.nn_model.specs.declared.form.Form.{Form}
 use Rattle.nn_listing.specs.Listing.{path_json}
 use Rattle.nn_listing.specs.Kept.{kept_lines, kept_after}
-use Rattle.nn_listing.specs.Safety.{unsafe_in, unsafe_of}
+use Rattle.nn_listing.specs.Safety.{unsafe_line, unsafe_lines, unsafe_in}
 use Rattle.nn_listing.specs.declared.safety.Kept.{Kept}
 use Rattle.nn_replicas.specs.Agreement.{Shows}
-use Rattle.nn_replicas.specs.Calls.{entry_or_none, replica_at, replicas_at}
-use Rattle.nn_replicas.specs.Entry.{live_cells, replicas_in}
+use Rattle.nn_replicas.specs.Calls.{entry_or_none, replica_at, live_at}
 use Rattle.nn_replicas.specs.Table.{Replicas}
-use Rattle.nn_replicas.specs.declared.entry.Cell.{Cell}
 use Rattle.nn_device.specs.Device.{Writer}
 use Rattle.nn_device.specs.Page.{Page, PutsPiece, PutsAllBut}
 use Rattle.nn_device.proofs.Pages.{one_more}
-use Rattle.nn_replicas.proofs.Entries.{counted_cons}
 use Rattle.nn_replicas.proofs.Ties.{cells_live, of_cells, same_live}
 
--- how many of these replicas of a block are live
-abbrev pub lives : Block → List (ℕ × Replica) → ℕ
-lives b [] = 0
-lives b (r ∷ replicas) = cond (is_live (Some r.1) b) 1 0 + lives b replicas
+-- a table that shows a namespace counts the live replicas of a block
+pub live_is : (count : ℕ) (n : Namespace) (t : Replicas) → Shows count n t → (b : Block) → live_at t b ≡ live_count count (replica_at t) b
+live_is count n t shows b =
+    cells_live b count (entry_or_none t b.id).cells (shows.in_order.datanodes b.id) (λ dn h. shows.datanodes dn b.id h)
+    ∙ same_live b count (of_cells (entry_or_none t b.id).cells) (replica_at t) (λ dn. refl)
 
--- of those in the cells of an entry
-lives_cells : (b : Block) (cells : List (ℕ × Cell)) → lives b (replicas_in cells) ≡ live_cells b cells
-lives_cells b [] = refl
-lives_cells b (x ∷ cells) = at x.1.replica (lives_cells b cells) ∙ sym (counted_cons (λ (c : Cell). is_live c.replica b) x cells)
-  where
-    at : (o : Option Replica) → lives b (replicas_in cells) ≡ live_cells b cells
-        → lives b (cons_option (option_map (λ r. (x.0, r)) o) (replicas_in cells)) ≡ cond (is_live o b) 1 0 + live_cells b cells
-    at None later = omega (arith, later)
-    at (Some r) later = ap (λ k. cond (is_live (Some r) b) 1 0 + k) later
-
-pub all_lives : (n : Namespace) (t : Replicas) (b : Block) → Shows n t → lives b (replicas_at t b.id) ≡ live_count (replica_at t) b
-all_lives n t b shows =
-    lives_cells b (entry_or_none t b.id).cells
-    ∙ cells_live b 256 (entry_or_none t b.id).cells (shows.in_order.datanodes b.id) (λ dn h. shows.datanodes dn b.id h)
-    ∙ same_live b 256 (of_cells (entry_or_none t b.id).cells) (replica_at t) (λ dn. refl)
-
-pub few_live : (n : ℕ) (f : ℕ → ℕ → Option Replica) (b : Block) → live_up_to n f b ≤ n
-few_live zero f b = omega arith
-few_live (suc n) f b = at (is_live (f (suc n) b.id) b) (few_live n f b)
-  where
-    at : (live : Bool) → live_up_to n f b ≤ n → cond live 1 0 + live_up_to n f b ≤ suc n
-    at true h = omega (arith, h)
-    at false h = omega (arith, h)
-
-pub few : (n : Namespace) (t : Replicas) (b : Block) → Shows n t → lives b (replicas_at t b.id) ≤ 256
-few n t b shows = subst (λ k. k ≤ 256) (sym (all_lives n t b shows)) (few_live 256 (replica_at t) b)
-
--- so there is room for one more
-pub one_fits : (n : Namespace) (t : Replicas) (b : Block) (live left : ℕ) → Shows n t → live + left ≡ lives b (replicas_at t b.id) → live + 1 < 2 ^ 64
-one_fits n t b live left shows is = fits (lives b (replicas_at t b.id)) is (few n t b shows)
-  where
-    fits : (all : ℕ) → live + left ≡ all → all ≤ 256 → live + 1 < 2 ^ 64
-    fits all e h = omega (arith, e, h)
-
--- one replica is counted, or not
-counted_one : (b : Block) (live all : ℕ) (old : List (ℕ × Replica)) (r : ℕ × Replica) (new : List (ℕ × Replica)) → old ≡ r ∷ new → live + lives b old ≡ all
-    → (is : Bool) → is ≡ is_live (Some r.1) b → (live + cond is 1 0) + lives b new ≡ all
-counted_one b live all old r new e h is same = at (cond is 1 0) (lives b new) (sym (ap (λ k. live + k) (ap (lives b) e ∙ ap (λ c. cond c 1 0 + lives b new) (sym same))) ∙ h)
-  where
-    at : (one more : ℕ) → live + (one + more) ≡ all → (live + one) + more ≡ all
-    at one more g = omega (arith, g)
-
-pub counted_live : (b : Block) (live all : ℕ) (old : List (ℕ × Replica)) (r : ℕ × Replica) (new : List (ℕ × Replica)) → old ≡ r ∷ new → live + lives b old ≡ all → true ≡ is_live (Some r.1) b → (live + 1) + lives b new ≡ all
-counted_live b live all old r new e h is = counted_one b live all old r new e h true is
-
-pub passed_over : (b : Block) (live all : ℕ) (old : List (ℕ × Replica)) (r : ℕ × Replica) (new : List (ℕ × Replica)) → old ≡ r ∷ new → live + lives b old ≡ all → false ≡ is_live (Some r.1) b → live + lives b new ≡ all
-passed_over b live all old r new e h isnt = ap (λ k. k + lives b new) (none_more live) ∙ counted_one b live all old r new e h false isnt
-  where
-    none_more : (k : ℕ) → k ≡ k + 0
-    none_more k = omega arith
-
-pub all_counted : (n : Namespace) (t : Replicas) (b : Block) (live : ℕ) (left : List (ℕ × Replica)) → Shows n t → left ≡ [] → live + lives b left ≡ lives b (replicas_at t b.id) → live ≡ live_count (replica_at t) b
-all_counted n t b live left shows none is = none_left live ∙ ap (λ l. live + lives b l) (sym none) ∙ is ∙ all_lives n t b shows
-  where
-    none_left : (k : ℕ) → k ≡ k + 0
-    none_left k = omega arith
+-- so the lines of what it counts are those of its replicas
+pub lines_are : (count : ℕ) (n : Namespace) (t : Replicas) → Shows count n t → (min : ℕ) (rows : List (Path × Form)) → unsafe_lines min (live_at t) rows ≡ unsafe_in count min (replica_at t) rows
+lines_are count n t shows min rows i = unsafe_lines min (λ b. live_is count n t shows b i) rows
 
 -- ---- At most so many lines.
 
@@ -119,19 +63,19 @@ left_both most a b = omega arith
 
 -- ---- One block.
 
-module _ (min : ℕ) (replica : ℕ → ℕ → Option Replica) (p : Path) (b : Block) where
+module _ (min live : ℕ) (p : Path) (b : Block) where
   abbrev its_line : List ℕ
-  its_line = codes "unsafe " ++ decimal b.id ++ codes " " ++ decimal (live_count replica b) ++ codes " " ++ path_json p ++ line_feed ∷ []
+  its_line = codes "unsafe " ++ decimal b.id ++ codes " " ++ decimal live ++ codes " " ++ path_json p ++ line_feed ∷ []
 
-  pub safe_block : min ≤ live_count replica b → unsafe_of min replica p b ≡ []
+  pub safe_block : min ≤ live → unsafe_line min live p b ≡ []
   safe_block enough = ap (λ c. cond c [] (its_line ∷ [])) (le-leb _ _ enough)
 
-  pub unsafe_block : live_count replica b < min → unsafe_of min replica p b ≡ its_line ∷ []
+  pub unsafe_block : live < min → unsafe_line min live p b ≡ its_line ∷ []
   unsafe_block few = ap (λ c. cond c [] (its_line ∷ [])) (lt-leb _ _ few)
 
   -- so a safe one has none
-  pub none_of_safe : (most : ℕ) → min ≤ live_count replica b → ([] ≡ joined (take most (unsafe_of min replica p b))) × (most ≡ most - length (unsafe_of min replica p b))
-  none_of_safe most enough = at most (unsafe_of min replica p b) (safe_block enough)
+  pub none_of_safe : (most : ℕ) → min ≤ live → ([] ≡ joined (take most (unsafe_line min live p b))) × (most ≡ most - length (unsafe_line min live p b))
+  none_of_safe most enough = at most (unsafe_line min live p b) (safe_block enough)
     where
       at : (most : ℕ) (lines : List (List ℕ)) → lines ≡ [] → ([] ≡ joined (take most lines)) × (most ≡ most - length lines)
       at zero lines e = (refl, omega (arith, ap length e))
@@ -139,7 +83,7 @@ module _ (min : ℕ) (replica : ℕ → ℕ → Option Replica) (p : Path) (b : 
       at (suc k) (line ∷ lines) e = absurd (cc)
 
   -- and another one has one, where there is room
-  pub one_of_unsafe : (most : ℕ) → live_count replica b < min → 0 < most → (its_line ≡ joined (take most (unsafe_of min replica p b))) × (most - 1 ≡ most - length (unsafe_of min replica p b))
+  pub one_of_unsafe : (most : ℕ) → live < min → 0 < most → (its_line ≡ joined (take most (unsafe_line min live p b))) × (most - 1 ≡ most - length (unsafe_line min live p b))
   one_of_unsafe zero low some = absurd (omega (arith, some))
   one_of_unsafe (suc k) low some =
       (sym (append-nil its_line) ∙ ap (λ (lines : List (List ℕ)). its_line ++ joined lines) (sym (take_none k)) ∙ ap (λ (lines : List (List ℕ)). joined (take (suc k) lines)) (sym (unsafe_block low)), ap (λ (lines : List (List ℕ)). suc k - length lines) (sym (unsafe_block low)))
@@ -151,18 +95,21 @@ no_room (suc k) lines e = absurd (omega (arith, e))
 
 -- ---- How many there are in all.
 
-module _ (min : ℕ) (replica : ℕ → ℕ → Option Replica) where
+module _ (min : ℕ) (live : Block → ℕ) where
   abbrev safe : Block → Bool
-  safe b = nat_le min (live_count replica b)
+  safe b = nat_le min (live b)
+
+  abbrev line_of : Path → Block → List (List ℕ)
+  line_of p b = unsafe_line min (live b) p b
 
   -- a block is safe, or has a line
-  one_block : (p : Path) (b : Block) (is : Bool) (c : Bool) → c ≡ is → length (cond is [] ((codes "unsafe " ++ decimal b.id ++ codes " " ++ decimal (live_count replica b) ++ codes " " ++ path_json p ++ line_feed ∷ []) ∷ [])) + cond c 1 0 ≡ 1
+  one_block : (p : Path) (b : Block) (is : Bool) (c : Bool) → c ≡ is → length (cond is [] ((codes "unsafe " ++ decimal b.id ++ codes " " ++ decimal (live b) ++ codes " " ++ path_json p ++ line_feed ∷ []) ∷ [])) + cond c 1 0 ≡ 1
   one_block p b true c e = ap (λ d. 0 + cond d 1 0) e
   one_block p b false c e = ap (λ d. 1 + cond d 1 0) e
 
-  of_blocks : (p : Path) (bs : List Block) → length (flat_map (unsafe_of min replica p) bs) + length (filter safe bs) ≡ length bs
+  of_blocks : (p : Path) (bs : List Block) → length (flat_map (line_of p) bs) + length (filter safe bs) ≡ length bs
   of_blocks p [] = refl
-  of_blocks p (b ∷ bs) = one_more (unsafe_of min replica p b) (flat_map (unsafe_of min replica p) bs) (filter safe bs) b bs (of_blocks p bs) (one_block p b (safe b))
+  of_blocks p (b ∷ bs) = one_more (line_of p b) (flat_map (line_of p) bs) (filter safe bs) b bs (of_blocks p bs) (one_block p b (safe b))
     where
       one_more : (some more : List (List ℕ)) (kept : List Block) (b : Block) (bs : List Block) → length more + length kept ≡ length bs
           → ((c : Bool) → c ≡ safe b → length some + cond c 1 0 ≡ 1) → length (some ++ more) + length (cond (safe b) (b ∷ kept) kept) ≡ suc (length bs)
@@ -173,12 +120,12 @@ module _ (min : ℕ) (replica : ℕ → ℕ → Option Replica) where
           at false h = omega (arith, h, later, length-append some more)
 
   pub of_rows : (rows : List (Path × Form))
-      → length (unsafe_in min replica rows) + length (filter safe (flat_map (λ row. closed_blocks_of row.1) rows)) ≡ length (flat_map (λ row. closed_blocks_of row.1) rows)
+      → length (unsafe_lines min live rows) + length (filter safe (flat_map (λ row. closed_blocks_of row.1) rows)) ≡ length (flat_map (λ row. closed_blocks_of row.1) rows)
   of_rows [] = refl
   of_rows (row ∷ rows) =
       let here = of_blocks row.0 (closed_blocks_of row.1) in
       let later = of_rows rows in
-      let lines = length-append (flat_map (unsafe_of min replica row.0) (closed_blocks_of row.1)) (unsafe_in min replica rows) in
+      let lines = length-append (flat_map (line_of row.0) (closed_blocks_of row.1)) (unsafe_lines min live rows) in
       let kept = ap length (filter-append safe (closed_blocks_of row.1) (flat_map (λ row. closed_blocks_of row.1) rows)) ∙ length-append (filter safe (closed_blocks_of row.1)) (filter safe (flat_map (λ row. closed_blocks_of row.1) rows)) in
       let all = length-append (closed_blocks_of row.1) (flat_map (λ row. closed_blocks_of row.1) rows) in
       omega (arith, here, later, lines, kept, all)
@@ -201,8 +148,9 @@ module _ (k : Kept) (some more lines : List (List ℕ)) (are : lines ≡ some ++
 
 -- ---- What `unsafe` is answered.
 
-pub unsafe_count : (permille min : ℕ) (n : Namespace) (replica : ℕ → ℕ → Option Replica) (m : SafeMode) → m ≡ safe_mode_of permille min n replica → m.total - m.safe ≡ length (unsafe_in min replica n.rows)
-unsafe_count permille min n replica m e = ap₂ (λ a b. a - b) (ap (λ (k : SafeMode). k.total) e) (ap (λ (k : SafeMode). k.safe) e) ∙ rest (length (unsafe_in min replica n.rows)) _ _ (of_rows min replica n.rows)
+pub unsafe_count : (count permille min : ℕ) (n : Namespace) (replica : ℕ → ℕ → Option Replica) (m : SafeMode) → m ≡ safe_mode_of count permille min n replica
+    → m.total - m.safe ≡ length (unsafe_in count min replica n.rows)
+unsafe_count count permille min n replica m e = ap₂ (λ a b. a - b) (ap (λ (k : SafeMode). k.total) e) (ap (λ (k : SafeMode). k.safe) e) ∙ rest (length (unsafe_in count min replica n.rows)) _ _ (of_rows min (live_count count replica) n.rows)
   where
     rest : (a b c : ℕ) → a + b ≡ c → c - b ≡ a
     rest a b c e = omega (arith, e)

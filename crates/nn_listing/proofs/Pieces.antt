@@ -62,8 +62,8 @@ five_parts : (a b c d e : List ℕ) → a ++ (b ++ (c ++ (d ++ e))) ≡ a ++ b +
 five_parts a b c d e = simp append_assoc
 
 pub summary_lines : (s : Summary)
-    → line (codes "txid") (decimal s.txid) ++ (line (codes "held") (decimal s.held) ++ (flat_map (λ dn. sender_text dn (s.senders dn)) datanodes ++ (counts_text s.counts ++ blocks_line s.mode)))
+    → line (codes "txid") (decimal s.txid) ++ (line (codes "held") (decimal s.held) ++ (flat_map (λ dn. sender_text dn (s.senders dn)) (datanodes s.datanodes) ++ (counts_text s.counts ++ blocks_line s.mode)))
     ≡ summary_text s
 unfolding summary_text
 summary_lines s =
-    five_parts (line (codes "txid") (decimal s.txid)) (line (codes "held") (decimal s.held)) (flat_map (λ dn. sender_text dn (s.senders dn)) datanodes) (counts_text s.counts) (blocks_line s.mode)
+    five_parts (line (codes "txid") (decimal s.txid)) (line (codes "held") (decimal s.held)) (flat_map (λ dn. sender_text dn (s.senders dn)) (datanodes s.datanodes)) (counts_text s.counts) (blocks_line s.mode)

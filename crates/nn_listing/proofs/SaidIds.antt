@@ -68,9 +68,9 @@ pub has_nothing : (lanes : Lanes) (dn k : ℕ) → is_said lanes dn k ≡ false 
 has_nothing lanes dn k h = ap (λ ms. option_and_then reported (last_or None ms)) (unsaid k (lanes dn) h)
 
 -- where no DataNode speaks of the block, a text that is none for each of them is none
-pub silent : {A : Type 0} (lanes : Lanes) (k : ℕ) (text : ℕ → List A) → ((dn : ℕ) → is_said lanes dn k ≡ false → text dn ≡ [])
-    → find nat_cmp k (marked (said_ids lanes)) ≡ None → flat_map text datanodes ≡ []
-silent lanes k text h none = all_silent datanodes (not_among k (flat_map (said_by lanes) datanodes) none)
+pub silent : {A : Type 0} (count : ℕ) (lanes : Lanes) (k : ℕ) (text : ℕ → List A) → ((dn : ℕ) → is_said lanes dn k ≡ false → text dn ≡ [])
+    → find nat_cmp k (marked (said_ids count lanes)) ≡ None → flat_map text (datanodes count) ≡ []
+silent count lanes k text h none = all_silent (datanodes count) (not_among k (flat_map (said_by lanes) (datanodes count)) none)
   where
     all_silent : (dns : List ℕ) → stands k (flat_map (said_by lanes) dns) ≡ false → flat_map text dns ≡ []
     all_silent [] g = refl

@@ -42,43 +42,42 @@ over_marked text (id ∷ ids) = ap (λ r. text id ++ r) (over_marked text ids)
 
 -- ---- a table that has nothing of which no DataNode spoke
 
-module _ (n : Namespace) (lanes : Lanes) (t : Replicas) (h : IsOfSaid n lanes t)
-    (count : ℕ) (count_is : 256 ≡ count) (all : datanodes ≡ range_with_len 1 count) where
+module _ (count : ℕ) (n : Namespace) (lanes : Lanes) (t : Replicas) (h : IsOfSaid count n lanes t) (all : datanodes count ≡ range_with_len 1 count) where
   block_shown : (id : ℕ) → block_at n id ≡ option_map block_of (row_at t id)
   block_shown id =
       sym (block_of_row n id) ∙ ap (option_map block_of) (sym (h.shows.rows id))
 
   -- the range of all ids that the table or a DataNode knows
   abbrev last : ℕ
-  last = bound t.entries + bound (marked (said_ids lanes))
+  last = bound t.entries + bound (marked (said_ids count lanes))
 
   ids_within : Within t.entries 0 last
   ids_within k g = let l = below_bound k t.entries g in (omega arith, omega (arith, l))
 
-  said_within : Within (marked (said_ids lanes)) 0 last
-  said_within k g = let l = below_bound k (marked (said_ids lanes)) g in (omega arith, omega (arith, l))
+  said_within : Within (marked (said_ids count lanes)) 0 last
+  said_within k g = let l = below_bound k (marked (said_ids count lanes)) g in (omega arith, omega (arith, l))
 
   -- what DataNodes have of a block
   abbrev cells_of : ℕ → List (ℕ × Cell)
   cells_of id = (entry_or_none t id).cells
 
   cells_within : (id : ℕ) → Within (cells_of id) 1 count
-  cells_within id dn g = let range = h.shows.datanodes dn id g in (range.0, omega (arith, range.1, count_is))
+  cells_within id dn g = let range = h.shows.datanodes dn id g in (range.0, omega (arith, range.1))
 
   abbrev over_datanodes : (ℕ → ℕ → List ℕ) → ℕ → List ℕ
-  over_datanodes text id = flat_map (text id) datanodes
+  over_datanodes text id = flat_map (text id) (datanodes count)
 
   -- the text of each block and each DataNode, over all ids
   over_ids : (text : ℕ → ℕ → List ℕ) → ((id dn : ℕ) → is_said lanes dn id ≡ false → text id dn ≡ [])
-      → flat_map (λ id. flat_map (text id) datanodes) (said_ids lanes) ≡ flat_map (λ id. flat_map (text id) datanodes) (range_with_len 0 last)
+      → flat_map (λ id. flat_map (text id) (datanodes count)) (said_ids count lanes) ≡ flat_map (λ id. flat_map (text id) (datanodes count)) (range_with_len 0 last)
   over_ids text none =
-      sym (over_marked (over_datanodes text) (said_ids lanes))
-      ∙ gathered (marked_text (over_datanodes text)) (λ k. refl) last 0 (marked (said_ids lanes))
-      (ids_sorted (flat_map (said_by lanes) datanodes)) said_within
-      ∙ same_texts _ (over_datanodes text) (range_with_len 0 last) (λ k. cases k (find nat_cmp k (marked (said_ids lanes))) refl)
+      sym (over_marked (over_datanodes text) (said_ids count lanes))
+      ∙ gathered (marked_text (over_datanodes text)) (λ k. refl) last 0 (marked (said_ids count lanes))
+      (ids_sorted (flat_map (said_by lanes) (datanodes count))) said_within
+      ∙ same_texts _ (over_datanodes text) (range_with_len 0 last) (λ k. cases k (find nat_cmp k (marked (said_ids count lanes))) refl)
     where
-      cases : (k : ℕ) (o : Option ℕ) → find nat_cmp k (marked (said_ids lanes)) ≡ o → marked_text (over_datanodes text) k o ≡ over_datanodes text k
-      cases k None e = sym (silent lanes k (text k) (λ dn g. none k dn g) e)
+      cases : (k : ℕ) (o : Option ℕ) → find nat_cmp k (marked (said_ids count lanes)) ≡ o → marked_text (over_datanodes text) k o ≡ over_datanodes text k
+      cases k None e = sym (silent count lanes k (text k) (λ dn g. none k dn g) e)
       cases k (Some mark) e = refl
 
   -- ---- replicas
@@ -87,7 +86,7 @@ module _ (n : Namespace) (lanes : Lanes) (t : Replicas) (h : IsOfSaid n lanes t)
   replica_here id b r = replica_line id b r.0 r.1
 
   replicas_of_block : (id : ℕ) (b : Block)
-      → lines_of_block id b (replicas_at t id) ≡ flat_map (λ dn. replica_text id (Some b) dn (replica_at t dn id)) datanodes
+      → lines_of_block id b (replicas_at t id) ≡ flat_map (λ dn. replica_text id (Some b) dn (replica_at t dn id)) (datanodes count)
   replicas_of_block id b =
       texts_of_some (replica_here id b) replica_in (cells_of id)
       ∙ gathered (λ dn o. given (replica_here id b) (option_map (λ r. (dn, r)) (option_and_then (λ c. c.replica) o))) (λ dn. refl)
@@ -103,15 +102,15 @@ module _ (n : Namespace) (lanes : Lanes) (t : Replicas) (h : IsOfSaid n lanes t)
   row_text row = lines_of_block row.0 row.1.block (replicas_at t row.0)
 
   block_replicas : (id : ℕ) (o : Option BlockRow) → row_at t id ≡ o
-      → given row_text (option_map (λ row. (id, row)) o) ≡ flat_map (λ dn. replica_text id (option_map block_of o) dn (replica_at t dn id)) datanodes
-  block_replicas id None e = sym (no_texts (λ dn. replica_text id None dn (replica_at t dn id)) datanodes (λ dn. refl))
+      → given row_text (option_map (λ row. (id, row)) o) ≡ flat_map (λ dn. replica_text id (option_map block_of o) dn (replica_at t dn id)) (datanodes count)
+  block_replicas id None e = sym (no_texts (λ dn. replica_text id None dn (replica_at t dn id)) (datanodes count) (λ dn. refl))
   block_replicas id (Some row) e = replicas_of_block id row.block
 
   no_replica : (id dn : ℕ) (o : Option Block) (r : Option Replica) → r ≡ None → replica_text id o dn r ≡ []
   no_replica id dn None r e = refl
   no_replica id dn (Some b) r e = ap (replica_text id (Some b) dn) e
 
-  replicas_are : lines_of_replicas t ≡ replica_lines_by n lanes (replica_at t)
+  replicas_are : lines_of_replicas t ≡ replica_lines_by count n lanes (replica_at t)
   replicas_are =
       texts_of_some row_text row_in t.entries
       ∙ gathered (λ id o. given row_text (option_map (λ row. (id, row)) (unwrap_or o no_entry).row)) (λ id. refl)
@@ -121,9 +120,9 @@ module _ (n : Namespace) (lanes : Lanes) (t : Replicas) (h : IsOfSaid n lanes t)
       (λ id dn g. no_replica id dn (block_at n id) (replica_at t dn id) (h.replicas dn id g)))
     where
       shown : (id : ℕ)
-          → flat_map (λ dn. replica_text id (option_map block_of (row_at t id)) dn (replica_at t dn id)) datanodes
-          ≡ flat_map (λ dn. replica_text id (block_at n id) dn (replica_at t dn id)) datanodes
-      shown id = ap (λ o. flat_map (λ dn. replica_text id o dn (replica_at t dn id)) datanodes) (sym (block_shown id))
+          → flat_map (λ dn. replica_text id (option_map block_of (row_at t id)) dn (replica_at t dn id)) (datanodes count)
+          ≡ flat_map (λ dn. replica_text id (block_at n id) dn (replica_at t dn id)) (datanodes count)
+      shown id = ap (λ o. flat_map (λ dn. replica_text id o dn (replica_at t dn id)) (datanodes count)) (sym (block_shown id))
 
   -- ---- orders
 
@@ -135,7 +134,7 @@ module _ (n : Namespace) (lanes : Lanes) (t : Replicas) (h : IsOfSaid n lanes t)
     abbrev where_ordered : ℕ → ℕ → List ℕ
     where_ordered id dn = cond (has_order t dn id) (text id dn) []
 
-    orders_of_block : (id : ℕ) → flat_map order_here (orders_in id (entry_or_none t id).cells) ≡ flat_map (where_ordered id) datanodes
+    orders_of_block : (id : ℕ) → flat_map order_here (orders_in id (entry_or_none t id).cells) ≡ flat_map (where_ordered id) (datanodes count)
     orders_of_block id =
         texts_of_some order_here (order_in id) (cells_of id)
         ∙ gathered (λ dn o. given order_here (cond (is_ordered o) (Some (id, dn)) None)) (λ dn. refl)
@@ -147,7 +146,7 @@ module _ (n : Namespace) (lanes : Lanes) (t : Replicas) (h : IsOfSaid n lanes t)
         cases dn true = refl
         cases dn false = refl
 
-    texts_of_orders : flat_map order_here (orders_of t) ≡ of_each lanes where_ordered
+    texts_of_orders : flat_map order_here (orders_of t) ≡ of_each count lanes where_ordered
     texts_of_orders =
         texts_of_lists order_here (λ e. orders_in e.0 e.1.cells) t.entries
         ∙ gathered (λ id o. flat_map order_here (orders_in id (unwrap_or o no_entry).cells)) (λ id. refl)
@@ -155,24 +154,24 @@ module _ (n : Namespace) (lanes : Lanes) (t : Replicas) (h : IsOfSaid n lanes t)
         ∙ same_texts _ _ (range_with_len 0 last) (λ id. orders_of_block id)
         ∙ sym (over_ids where_ordered (λ id dn g. ap (λ b. cond b (text id dn) []) (h.orders dn id g)))
 
-  orders_are : lines_of_orders t ≡ order_lines_by lanes (has_order t)
-  orders_are = texts_of_orders order_line ∙ ap (of_each lanes) (λ i id dn. by_order id dn (has_order t dn id) i)
+  orders_are : lines_of_orders t ≡ order_lines_by count lanes (has_order t)
+  orders_are = texts_of_orders order_line ∙ ap (of_each count lanes) (λ i id dn. by_order id dn (has_order t dn id) i)
     where
       by_order : (id dn : ℕ) (b : Bool) → cond b (order_line id dn) [] ≡ order_text id dn b
       by_order id dn true = refl
       by_order id dn false = refl
 
-all_datanodes : datanodes ≡ range_with_len 1 256
+all_datanodes : (count : ℕ) → datanodes count ≡ range_with_len 1 count
 unfolding datanodes
-all_datanodes = refl
+all_datanodes count = refl
 
-pub of_said : (n : Namespace) (lanes : Lanes) (t : Replicas) (rest : List ℕ) → IsOfSaid n lanes t
-    → lines_of_replicas t ++ lines_of_orders t ++ rest ≡ replica_lines_by n lanes (replica_at t) ++ order_lines_by lanes (has_order t) ++ rest
-of_said n lanes t rest h = ap₂ (λ a b. a ++ b ++ rest) (replicas_are n lanes t h 256 refl all_datanodes) (orders_are n lanes t h 256 refl all_datanodes)
+pub of_said : (count : ℕ) (n : Namespace) (lanes : Lanes) (t : Replicas) (rest : List ℕ) → IsOfSaid count n lanes t
+    → lines_of_replicas t ++ lines_of_orders t ++ rest ≡ replica_lines_by count n lanes (replica_at t) ++ order_lines_by count lanes (has_order t) ++ rest
+of_said count n lanes t rest h = ap₂ (λ a b. a ++ b ++ rest) (replicas_are count n lanes t h (all_datanodes count)) (orders_are count n lanes t h (all_datanodes count))
 
 -- ---- a table that shows the picture
 
-module _ (permille min : ℕ) (n : Namespace) (lanes : Lanes) (t : Replicas) (mode : SafeMode) (h : IsPicture permille min n lanes t mode) where
+module _ (count permille min : ℕ) (n : Namespace) (lanes : Lanes) (t : Replicas) (mode : SafeMode) (h : IsPicture count permille min n lanes t mode) where
   no_replica_there : (named : Bool) (r : Option Replica) → r ≡ None → cond named r None ≡ None
   no_replica_there true r e = e
   no_replica_there false r e = refl
@@ -181,7 +180,7 @@ module _ (permille min : ℕ) (n : Namespace) (lanes : Lanes) (t : Replicas) (mo
   no_order_there true r e = refl
   no_order_there false r e = ap is_some e
 
-  pub is_of_said : IsOfSaid n lanes t
+  pub is_of_said : IsOfSaid count n lanes t
   is_of_said = record {
     shows = h.shows;
     replicas = λ dn id g. h.replicas dn id ∙ no_replica_there (is_named n id) (last_replica lanes dn id) (has_nothing lanes dn id g);
@@ -194,11 +193,11 @@ module _ (permille min : ℕ) (n : Namespace) (lanes : Lanes) (t : Replicas) (mo
   same_orders : has_order t ≡ picture_order n lanes
   same_orders i dn id = h.orders dn id i
 
-  pub pictured : lines_of_replicas t ++ lines_of_orders t ++ blocks_line mode ≡ tables_text permille min n lanes
+  pub pictured : lines_of_replicas t ++ lines_of_orders t ++ blocks_line mode ≡ tables_text count permille min n lanes
   pictured =
-      of_said n lanes t (blocks_line mode) is_of_said
-      ∙ ap₂ (λ f g. replica_lines_by n lanes f ++ order_lines_by lanes g ++ blocks_line mode) same_replicas same_orders
-      ∙ ap (λ m. replica_lines n lanes ++ order_lines n lanes ++ blocks_line m) (h.counts ∙ ap (safe_mode_of permille min n) same_replicas)
+      of_said count n lanes t (blocks_line mode) is_of_said
+      ∙ ap₂ (λ f g. replica_lines_by count n lanes f ++ order_lines_by count lanes g ++ blocks_line mode) same_replicas same_orders
+      ∙ ap (λ m. replica_lines count n lanes ++ order_lines count n lanes ++ blocks_line m) (h.counts ∙ ap (safe_mode_of count permille min n) same_replicas)
 
 -- ---- how many orders there are
 
@@ -220,13 +219,13 @@ one_where true = refl
 one_where false = refl
 
 -- a table that has nothing of which no DataNode spoke counts the orders of what they spoke of
-pub orders_counted : (n : Namespace) (lanes : Lanes) (t : Replicas) → IsOfSaid n lanes t → (figures_of t).orders ≡ order_count lanes (has_order t)
-orders_counted n lanes t h =
+pub orders_counted : (count : ℕ) (n : Namespace) (lanes : Lanes) (t : Replicas) → IsOfSaid count n lanes t → (figures_of t).orders ≡ order_count count lanes (has_order t)
+orders_counted count n lanes t h =
     let one : ℕ → ℕ → List ℕ = λ id dn. 1 ∷ [] in
     let counted : (figures_of t).orders ≡ length (orders_of t) =
     (λ i. sum_by (λ (e : ℕ × BlockEntry). sym (ordered_in e.0 e.1.cells) i) t.entries) ∙ sym (length-flat_map (λ (e : ℕ × BlockEntry). orders_in e.0 e.1.cells) t.entries) in
     let listed : length (orders_of t) ≡ length (flat_map (λ (o : ℕ × ℕ). one o.0 o.1) (orders_of t)) =
     sym (length-flat_map (λ (o : ℕ × ℕ). one o.0 o.1) (orders_of t) ∙ one_each (orders_of t)) in
-    counted ∙ listed ∙ ap length (texts_of_orders n lanes t h 256 refl all_datanodes one)
-    ∙ length-flat_map (λ id. flat_map (λ dn. cond (has_order t dn id) (1 ∷ []) []) datanodes) (said_ids lanes)
-    ∙ (λ i. sum_by (λ id. (length-flat_map (λ dn. cond (has_order t dn id) (1 ∷ []) []) datanodes ∙ (λ j. sum_by (λ dn. one_where (has_order t dn id) j) datanodes)) i) (said_ids lanes))
+    counted ∙ listed ∙ ap length (texts_of_orders count n lanes t h (all_datanodes count) one)
+    ∙ length-flat_map (λ id. flat_map (λ dn. cond (has_order t dn id) (1 ∷ []) []) (datanodes count)) (said_ids count lanes)
+    ∙ (λ i. sum_by (λ id. (length-flat_map (λ dn. cond (has_order t dn id) (1 ∷ []) []) (datanodes count) ∙ (λ j. sum_by (λ dn. one_where (has_order t dn id) j) (datanodes count))) i) (said_ids count lanes))

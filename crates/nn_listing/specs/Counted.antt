@@ -29,9 +29,10 @@ sender_seen x dn = record { messages = last_number_in x.numbers dn; waiting = he
 
 abbrev pub summary_seen : Shadow → Summary
 summary_seen x = record {
+  datanodes = length x.numbers;
   txid = x.last;
   held = length x.held;
   senders = sender_seen x;
   counts = counts_told (files_of x.namespace) (directories_of x.namespace) (figures_of x.table);
-  mode = safe_mode_of x.permille x.table.min x.namespace (replica_at x.table);
+  mode = safe_mode_of (length x.numbers) x.permille x.table.min x.namespace (replica_at x.table);
 }

@@ -8,15 +8,19 @@ use Rattle.nn_model.specs.Counts.{closed_blocks_of, live_count}
 use Rattle.nn_model.specs.Namespace.{Path}
 use Rattle.nn_listing.specs.Listing.{path_json}
 
--- `unsafe BLOCK LIVE PATH`, of a block that has fewer live replicas than it has to have
-abbrev pub unsafe_of : ℕ → (ℕ → ℕ → Option Replica) → Path → Block → List (List ℕ)
-unsafe_of min replica p b =
-    if nat_le min (live_count replica b) then [] else (codes "unsafe " ++ decimal b.id ++ codes " " ++ decimal (live_count replica b) ++ codes " " ++ path_json p ++ line_feed ∷ []) ∷ []
+-- `unsafe BLOCK LIVE PATH`, of a block with so many live replicas, where it has to have more
+abbrev pub unsafe_line : ℕ → ℕ → Path → Block → List (List ℕ)
+unsafe_line min live p b =
+    if nat_le min live then [] else (codes "unsafe " ++ decimal b.id ++ codes " " ++ decimal live ++ codes " " ++ path_json p ++ line_feed ∷ []) ∷ []
 
--- such blocks of closed files, in path order
-abbrev pub unsafe_in : ℕ → (ℕ → ℕ → Option Replica) → List (Path × Form) → List (List ℕ)
-unsafe_in min replica rows = flat_map (λ row. flat_map (unsafe_of min replica row.0) (closed_blocks_of row.1)) rows
+-- the lines of the blocks of closed files, in path order, where this tells how many live replicas a block has
+abbrev pub unsafe_lines : ℕ → (Block → ℕ) → List (Path × Form) → List (List ℕ)
+unsafe_lines min live rows = flat_map (λ row. flat_map (λ b. unsafe_line min (live b) row.0 b) (closed_blocks_of row.1)) rows
 
--- their lines, one behind another
-abbrev pub unsafe_text : ℕ → (ℕ → ℕ → Option Replica) → List (Path × Form) → List ℕ
-unsafe_text min replica rows = flat_map (λ line. line) (unsafe_in min replica rows)
+-- of the replicas of so many DataNodes
+abbrev pub unsafe_in : ℕ → ℕ → (ℕ → ℕ → Option Replica) → List (Path × Form) → List (List ℕ)
+unsafe_in datanodes min replica rows = unsafe_lines min (live_count datanodes replica) rows
+
+-- one behind another
+abbrev pub unsafe_text : ℕ → ℕ → (ℕ → ℕ → Option Replica) → List (Path × Form) → List ℕ
+unsafe_text datanodes min replica rows = flat_map (λ line. line) (unsafe_in datanodes min replica rows)

@@ -26,11 +26,11 @@ replica dn id =
     else None
 
 -- the blocks of an open file do not count
-one_wanted : unsafe_text 1 replica rows ≡ codes "unsafe 3 0 \"/f\"\n"
+one_wanted : unsafe_text 3 1 replica rows ≡ codes "unsafe 3 0 \"/f\"\n"
 unfolding digits escape_byte
 one_wanted = refl
 
-two_wanted : unsafe_text 2 replica rows ≡ codes "unsafe 2 1 \"/f\"\n" ++ codes "unsafe 3 0 \"/f\"\n"
+two_wanted : unsafe_text 3 2 replica rows ≡ codes "unsafe 2 1 \"/f\"\n" ++ codes "unsafe 3 0 \"/f\"\n"
 unfolding digits escape_byte
 two_wanted = refl
 
@@ -38,7 +38,7 @@ two_wanted = refl
 abbrev closed_file : ℕ → Form
 closed_file id = File (record { replication = 3; closed = true; blocks = b id ∷ [] })
 
-in_path_order : unsafe_text 1 (λ dn id. None) ((codes "a" ∷ [], closed_file 9) ∷ (codes "f" ∷ [], closed_file 2) ∷ [])
+in_path_order : unsafe_text 3 1 (λ dn id. None) ((codes "a" ∷ [], closed_file 9) ∷ (codes "f" ∷ [], closed_file 2) ∷ [])
     ≡ codes "unsafe 9 0 \"/a\"\n" ++ codes "unsafe 2 0 \"/f\"\n"
 unfolding digits escape_byte
 in_path_order = refl

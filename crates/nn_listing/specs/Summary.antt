@@ -33,6 +33,7 @@ pub record Counts : Type 0 where
   pub orders : ℕ
 
 pub record Summary : Type 0 where
+  pub datanodes : ℕ  -- how many DataNodes there are
   pub txid : ℕ  -- of the last transaction that was applied
   pub held : ℕ  -- how many items wait
   pub senders : ℕ → Sender  -- of each DataNode
@@ -65,18 +66,19 @@ counts_text c =
 
 unfoldable pub summary_text : Summary → List ℕ
 summary_text s =
-    line (codes "txid") (decimal s.txid) ++ line (codes "held") (decimal s.held) ++ flat_map (λ dn. sender_text dn (s.senders dn)) datanodes
+    line (codes "txid") (decimal s.txid) ++ line (codes "held") (decimal s.held) ++ flat_map (λ dn. sender_text dn (s.senders dn)) (datanodes s.datanodes)
     ++ counts_text s.counts ++ blocks_line s.mode
 
 -- ---- Of a standby.
 
 -- how many orders there are, where DataNodes spoke of these blocks alone
-abbrev pub order_count : Lanes → (ℕ → ℕ → Bool) → ℕ
-order_count lanes has_order = sum_by (λ id. count_by (λ dn. has_order dn id) datanodes) (said_ids lanes)
+abbrev pub order_count : ℕ → Lanes → (ℕ → ℕ → Bool) → ℕ
+order_count count lanes has_order = sum_by (λ id. count_by (λ dn. has_order dn id) (datanodes count)) (said_ids count lanes)
 
--- where these are the messages that were taken
-abbrev pub summary_of : ℕ → ℕ → Lanes → StandbyState → Summary
-summary_of permille min lanes x = record {
+-- where these are the messages that were taken of so many DataNodes
+abbrev pub summary_of : ℕ → ℕ → ℕ → Lanes → StandbyState → Summary
+summary_of count permille min lanes x = record {
+  datanodes = count;
   txid = x.last;
   held = length x.held;
   senders = λ dn. record { messages = x.last_number dn; waiting = count_by (λ m. m.dn == dn) x.held; report = (x.had dn).begun };
@@ -84,14 +86,14 @@ summary_of permille min lanes x = record {
     files = files_of x.namespace;
     directories = directories_of x.namespace;
     blocks = length (all_blocks x.namespace);
-    missing = passing (λ replication live. live == 0) x.namespace x.replica;
-    missing_of_one = passing (λ replication live. (live == 0) && (replication == 1)) x.namespace x.replica;
-    under_replicated = passing (λ replication live. nat_lt live replication) x.namespace x.replica;
-    over_replicated = passing (λ replication live. nat_lt replication live) x.namespace x.replica;
-    stale = class_total Stale x.namespace x.replica;
-    ahead = class_total Ahead x.namespace x.replica;
-    wrong_length = class_total WrongLength x.namespace x.replica;
-    orders = order_count lanes x.has_order;
+    missing = passing (λ replication live. live == 0) count x.namespace x.replica;
+    missing_of_one = passing (λ replication live. (live == 0) && (replication == 1)) count x.namespace x.replica;
+    under_replicated = passing (λ replication live. nat_lt live replication) count x.namespace x.replica;
+    over_replicated = passing (λ replication live. nat_lt replication live) count x.namespace x.replica;
+    stale = class_total Stale count x.namespace x.replica;
+    ahead = class_total Ahead count x.namespace x.replica;
+    wrong_length = class_total WrongLength count x.namespace x.replica;
+    orders = order_count count lanes x.has_order;
   };
-  mode = safe_mode_of permille min x.namespace x.replica;
+  mode = safe_mode_of count permille min x.namespace x.replica;
 }

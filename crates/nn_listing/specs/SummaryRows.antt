@@ -100,7 +100,7 @@ standby = record {
 abbrev lanes : Lanes
 lanes dn = if dn == 1 then message 1 1 Received 9 1001 5 ∷ [] else []
 
-of_a_standby : summary_text (summary_of 500 1 lanes standby)
+of_a_standby : summary_text (summary_of 256 500 1 lanes standby)
     ≡ codes "txid 7\nheld 3\ndatanode 3 12 held 2 report 9\ndatanode 4 1 held 1\nfiles 4\ndirectories 3\nfile_blocks 6\nmissing 3\nmissing_of_one 2\n"
     ++ codes "under_replicated 4\nover_replicated 1\nstale 1\nahead 2\nwrong_length 4\norders 2\nblocks 5 safe 2 needed 2 mode off\n"
 unfolding summary_text counts_text datanodes digits

@@ -5,7 +5,6 @@ use Rattle.nn_bytes.specs.Lines.{line_feed}
 use Rattle.nn_types.specs.declared.block.Block.{Block}
 use Rattle.nn_types.specs.declared.replica.Replica.{Replica}
 use Rattle.nn_types.specs.Words.{kind_text, class_text}
-use Rattle.nn_types.specs.Limits.{max_datanodes}
 use Rattle.nn_model.specs.Items.{each_once}
 use Rattle.nn_model.specs.Counts.{class_of, SafeMode, safe_mode_of}
 use Rattle.nn_model.specs.Lanes.{Lanes}
@@ -18,9 +17,9 @@ use Rattle.nn_replicas.specs.Table.{Replicas}
 
 -- ---- Which DataNodes and block ids there are.
 
--- DataNodes are 1 to 256
-unfoldable pub datanodes : List ℕ
-datanodes = range_with_len 1 max_datanodes
+-- so many DataNodes are 1 to this number
+unfoldable pub datanodes : ℕ → List ℕ
+datanodes count = range_with_len 1 count
 
 -- the ids of the blocks that the DataNode speaks of, as its messages come
 abbrev pub said_by : Lanes → ℕ → List ℕ
@@ -31,12 +30,12 @@ abbrev pub is_said : Lanes → ℕ → ℕ → Bool
 is_said lanes dn id = list_any (λ k. id == k) (said_by lanes dn)
 
 -- the ids of all blocks that DataNodes speak of. Of another block there is no replica and no order
-abbrev pub said_ids : Lanes → List ℕ
-said_ids lanes = each_once (flat_map (said_by lanes) datanodes)
+abbrev pub said_ids : ℕ → Lanes → List ℕ
+said_ids count lanes = each_once (flat_map (said_by lanes) (datanodes count))
 
 -- a text for each of these ids and each DataNode, by ascending id and then by DataNode
-abbrev pub of_each : Lanes → (ℕ → ℕ → List ℕ) → List ℕ
-of_each lanes text = flat_map (λ id. flat_map (text id) datanodes) (said_ids lanes)
+abbrev pub of_each : ℕ → Lanes → (ℕ → ℕ → List ℕ) → List ℕ
+of_each count lanes text = flat_map (λ id. flat_map (text id) (datanodes count)) (said_ids count lanes)
 
 -- ---- Replicas.
 
@@ -53,12 +52,12 @@ replica_text id (Some b) dn None = []
 replica_text id (Some b) dn (Some r) = replica_line id b dn r
 
 -- the lines of all replicas that are looked up so, of a DataNode and a block
-abbrev pub replica_lines_by : Namespace → Lanes → (ℕ → ℕ → Option Replica) → List ℕ
-replica_lines_by n lanes replica = of_each lanes (λ id dn. replica_text id (block_at n id) dn (replica dn id))
+abbrev pub replica_lines_by : ℕ → Namespace → Lanes → (ℕ → ℕ → Option Replica) → List ℕ
+replica_lines_by count n lanes replica = of_each count lanes (λ id dn. replica_text id (block_at n id) dn (replica dn id))
 
 -- the lines of all replicas
-abbrev pub replica_lines : Namespace → Lanes → List ℕ
-replica_lines n lanes = replica_lines_by n lanes (picture_replica n lanes)
+abbrev pub replica_lines : ℕ → Namespace → Lanes → List ℕ
+replica_lines count n lanes = replica_lines_by count n lanes (picture_replica n lanes)
 
 -- ---- Orders.
 
@@ -72,12 +71,12 @@ order_text id dn true = order_line id dn
 order_text id dn false = []
 
 -- the lines of all orders that are looked up so
-abbrev pub order_lines_by : Lanes → (ℕ → ℕ → Bool) → List ℕ
-order_lines_by lanes has_order = of_each lanes (λ id dn. order_text id dn (has_order dn id))
+abbrev pub order_lines_by : ℕ → Lanes → (ℕ → ℕ → Bool) → List ℕ
+order_lines_by count lanes has_order = of_each count lanes (λ id dn. order_text id dn (has_order dn id))
 
 -- the lines of all orders
-abbrev pub order_lines : Namespace → Lanes → List ℕ
-order_lines n lanes = order_lines_by lanes (picture_order n lanes)
+abbrev pub order_lines : ℕ → Namespace → Lanes → List ℕ
+order_lines count n lanes = order_lines_by count lanes (picture_order n lanes)
 
 -- ---- Counts.
 
@@ -93,9 +92,10 @@ blocks_line mode =
 
 -- ---- All of it.
 
--- replicas, orders and counts, where this namespace and these lanes are all that there is
-abbrev pub tables_text : ℕ → ℕ → Namespace → Lanes → List ℕ
-tables_text permille min n lanes = replica_lines n lanes ++ order_lines n lanes ++ blocks_line (safe_mode_of permille min n (picture_replica n lanes))
+-- replicas, orders and counts, where this namespace and the lanes of so many DataNodes are all that there is
+abbrev pub tables_text : ℕ → ℕ → ℕ → Namespace → Lanes → List ℕ
+tables_text count permille min n lanes =
+    replica_lines count n lanes ++ order_lines count n lanes ++ blocks_line (safe_mode_of count permille min n (picture_replica n lanes))
 
 -- ---- A table that shows them.
 
@@ -112,14 +112,14 @@ abbrev pub lines_of_orders : Replicas → List ℕ
 lines_of_orders t = flat_map (λ order. order_line order.0 order.1) (orders_of t)
 
 -- the table shows the namespace, and has nothing of a DataNode about a block of which it did not speak
-pub record IsOfSaid (n : Namespace) (lanes : Lanes) (t : Replicas) : Type 0 where
-  pub shows : Shows n t
+pub record IsOfSaid (count : ℕ) (n : Namespace) (lanes : Lanes) (t : Replicas) : Type 0 where
+  pub shows : Shows count n t
   pub replicas : (dn id : ℕ) → is_said lanes dn id ≡ false → replica_at t dn id ≡ None
   pub orders : (dn id : ℕ) → is_said lanes dn id ≡ false → has_order t dn id ≡ false
 
 -- the table shows the namespace, its replicas and orders are the picture's, and the mode is the one of its replicas
-pub record IsPicture (permille min : ℕ) (n : Namespace) (lanes : Lanes) (t : Replicas) (mode : SafeMode) : Type 0 where
-  pub shows : Shows n t
+pub record IsPicture (count permille min : ℕ) (n : Namespace) (lanes : Lanes) (t : Replicas) (mode : SafeMode) : Type 0 where
+  pub shows : Shows count n t
   pub replicas : (dn id : ℕ) → replica_at t dn id ≡ picture_replica n lanes dn id
   pub orders : (dn id : ℕ) → has_order t dn id ≡ picture_order n lanes dn id
-  pub counts : mode ≡ safe_mode_of permille min n (replica_at t)
+  pub counts : mode ≡ safe_mode_of count permille min n (replica_at t)

@@ -24,7 +24,7 @@ one_file = record {
 abbrev stray : ℕ
 stray = 1073741827
 
--- DataNode 257 speaks too, and there is no such DataNode
+-- DataNode 257 speaks too, and where there are 256 there is no such DataNode
 abbrev some_lanes : Lanes
 some_lanes dn =
     if dn == 1 then message 1 1 Received c 1001 6 ∷ message 1 2 Receiving b 1002 5 ∷ message 1 3 Received b 1002 5 ∷ []
@@ -34,12 +34,12 @@ some_lanes dn =
     else if dn == 257 then message 257 1 Received b 1002 5 ∷ message 257 2 Received stray 1001 5 ∷ message 257 3 Received 1 1 1 ∷ []
     else []
 
-ids_said : said_ids some_lanes ≡ b ∷ c ∷ stray ∷ []
+ids_said : said_ids 256 some_lanes ≡ b ∷ c ∷ stray ∷ []
 unfolding datanodes digits
 ids_said = refl
 
 -- one of each class, by block and then by DataNode
-replicas_listed : replica_lines one_file some_lanes
+replicas_listed : replica_lines 256 one_file some_lanes
     ≡ line (codes "replica 1073741825 1 1002 5 received live") ++ line (codes "replica 1073741825 2 1002 4 receiving building")
     ++ line (codes "replica 1073741825 3 1003 5 received ahead") ++ line (codes "replica 1073741826 1 1001 6 received wronglength")
     ++ line (codes "replica 1073741826 2 1000 7 received stale")
@@ -47,13 +47,13 @@ unfolding datanodes digits
 replicas_listed = refl
 
 -- what was deleted is not ordered
-orders_listed : order_lines one_file some_lanes ≡ line (codes "order 1073741827 2") ++ line (codes "order 1073741827 256")
+orders_listed : order_lines 256 one_file some_lanes ≡ line (codes "order 1073741827 2") ++ line (codes "order 1073741827 256")
 unfolding datanodes digits
 orders_listed = refl
 
 -- where no file holds a block, all is ordered
-all_ordered : (replica_lines root_alone some_lanes ≡ [])
-    × (order_lines root_alone some_lanes
+all_ordered : (replica_lines 256 root_alone some_lanes ≡ [])
+    × (order_lines 256 root_alone some_lanes
     ≡ line (codes "order 1073741825 1") ++ line (codes "order 1073741825 2") ++ line (codes "order 1073741825 3")
     ++ line (codes "order 1073741826 1") ++ line (codes "order 1073741826 2")
     ++ line (codes "order 1073741827 2") ++ line (codes "order 1073741827 256"))
@@ -65,11 +65,19 @@ counts_line : map (λ on. blocks_line (record { total = 1000; safe = 998; needed
 unfolding digits
 counts_line = refl
 
-whole_text : tables_text 500 1 one_file some_lanes
-    ≡ replica_lines one_file some_lanes ++ order_lines one_file some_lanes ++ line (codes "blocks 2 safe 1 needed 1 mode off")
+whole_text : tables_text 256 500 1 one_file some_lanes
+    ≡ replica_lines 256 one_file some_lanes ++ order_lines 256 one_file some_lanes ++ line (codes "blocks 2 safe 1 needed 1 mode off")
 unfolding datanodes digits
 whole_text = refl
 
-nothing_said : tables_text 999 1 root_alone no_messages ≡ line (codes "blocks 0 safe 0 needed 0 mode off")
+nothing_said : tables_text 3 999 1 root_alone no_messages ≡ line (codes "blocks 0 safe 0 needed 0 mode off")
 unfolding datanodes digits
 nothing_said = refl
+
+-- of two DataNodes the same lanes have fewer lines
+of_two : tables_text 2 500 1 one_file some_lanes
+    ≡ line (codes "replica 1073741825 1 1002 5 received live") ++ line (codes "replica 1073741825 2 1002 4 receiving building")
+    ++ line (codes "replica 1073741826 1 1001 6 received wronglength") ++ line (codes "replica 1073741826 2 1000 7 received stale")
+    ++ line (codes "order 1073741827 2") ++ line (codes "blocks 2 safe 1 needed 1 mode off")
+unfolding datanodes digits
+of_two = refl

@@ -1,25 +1,25 @@
 //! What keeps safe mode on: the blocks that have too few live replicas.
-ghost use Rattle.std.specs.Prelude.{◌≡◌, ◌≤◌, ◌-◌, ◌++◌, ◌∷◌, [], take, length, flat_map, Some, IfOk, codes, decimal};
+ghost use Rattle.std.specs.Prelude.{◌≡◌, ◌≤◌, ℕ, ◌++◌, ◌∷◌, [], take, length, flat_map, IfOk, codes, decimal};
 ghost use Rattle.nn_bytes.specs.Lines.{line_feed};
 ghost use Rattle.nn_device.specs.Page.{PutsPiece};
-ghost use Rattle.nn_model.specs.Counts.{closed_blocks_of, is_live, live_count};
+ghost use Rattle.nn_model.specs.Counts.{closed_blocks_of};
 ghost use Rattle.nn_model.specs.Namespace.{Namespace};
 ghost use Rattle.nn_replicas.specs.Agreement.{Shows};
-ghost use Rattle.nn_replicas.specs.Calls.{replica_at};
+ghost use Rattle.nn_replicas.specs.Calls.{replica_at, live_at};
 ghost use Rattle.nn_tree.specs.Found.{form_of};
 ghost use Rattle.nn_tree.specs.Listing.{lent_names};
 ghost use Rattle.nn_tree.specs.Rows.{extent_of, greatest_depth};
 ghost use Rattle.nn_listing.specs.Listing.{path_json};
 ghost use Rattle.nn_listing.specs.Kept.{unsafe_by, kept_lines, kept_after};
-ghost use Rattle.nn_listing.specs.Safety.{unsafe_in, unsafe_text};
+ghost use Rattle.nn_listing.specs.Safety.{unsafe_lines, unsafe_in, unsafe_text};
 
 use crate::fields::put_field;
 use nn_device::{Page, Writer};
-use nn_replicas::{Replicas, SafeMode, class};
+use nn_replicas::{Replicas, SafeMode};
 use nn_shadow::Shadow;
 use nn_text::put_path;
 use nn_tree::{Extent, Found, Rows};
-use nn_types::{Block, BlockId, Class, Replica};
+use nn_types::{Block, BlockId};
 use std::alloc::AllocError;
 use std::io::Write;
 use std::marker::Model;
@@ -39,26 +39,24 @@ pub struct ReadyUnsafe<'a> {
 }
 
 impl<'a> Model for ReadyUnsafe<'a> {
-    ghost use Rattle.std.specs.Prelude.{◌≡◌, ◌≤◌, List, ℕ, length};
-    ghost use Rattle.nn_model.specs.Namespace.{Namespace};
-    ghost use Rattle.nn_replicas.specs.Agreement.{Shows};
-    ghost use Rattle.nn_replicas.specs.Calls.{replica_at};
+    ghost use Rattle.std.specs.Prelude.{◌≡◌, ◌≤◌, List, ℕ, length, flat_map};
+    ghost use Rattle.nn_replicas.specs.Calls.{live_at};
     ghost use Rattle.nn_tree.specs.Rows.{greatest_depth};
-    ghost use Rattle.nn_listing.specs.Safety.{unsafe_in, unsafe_text};
+    ghost use Rattle.nn_listing.specs.Safety.{unsafe_lines};
 
     ghost Value = { List ℕ };
 
-    ghost view = { λ u. unsafe_text u.table.now.min (replica_at u.table.now) u.rows.left };
+    ghost view = { λ u. flat_map (λ line. line) (unsafe_lines u.table.now.min (live_at u.table.now) u.rows.left) };
 
-    ghost invariant = { λ u. (greatest_depth u.rows.left ≤ u.rows.room) × ((n : Namespace) × Shows n u.table.now)
-        × (u.count ≡ length (unsafe_in u.table.now.min (replica_at u.table.now) u.rows.left)) };
+    ghost invariant = { λ u. (greatest_depth u.rows.left ≤ u.rows.room) × (u.count ≡ length (unsafe_lines u.table.now.min (live_at u.table.now) u.rows.left)) };
 }
 
 impl<'a> ReadyUnsafe<'a> {
     /// Those of a standby. The extent is that of its namespace.
     pub fn of(standby: &'a Shadow, extent: Extent) -> Result<ReadyUnsafe<'a>, AllocError>
         requires { extent ≡ extent_of standby.now.namespace.rows }
-        ensures { IfOk result (λ lines. lines ≡ unsafe_text standby.now.table.min (replica_at standby.now.table) standby.now.namespace.rows) }
+        ensures { (datanodes : ℕ) → length standby.now.numbers ≤ datanodes
+            → IfOk result (λ lines. lines ≡ unsafe_text datanodes standby.now.table.min (replica_at standby.now.table) standby.now.namespace.rows) }
     {
         standby.recall_invariant();
         let rows = standby.namespace().ready_rows(extent.depth)?;
@@ -75,12 +73,28 @@ impl<'a> ReadyUnsafe<'a> {
         ensures { PutsPiece self.entry page.old writer.old page.new writer.new }
     {
         let min = self.table.min();
-        put_unsafe_rows(page, writer, self.rows, self.table, min, self.count);
+        put_rows(page, writer, self.rows, self.table, min, self.count);
     }
 }
 
 /// Puts so many of the lines of blocks that have fewer than `min` live replicas, in path order. It goes on until it has them.
 pub fn put_unsafe_rows<W: Write>(
+    page: &mut Page,
+    writer: &mut Writer<W>,
+    rows: Rows<'_>,
+    table: &Replicas,
+    min: u16,
+    most: u64,
+)
+    requires room { greatest_depth rows.left ≤ rows.room }
+    ensures { (datanodes : ℕ) (n : Namespace) → Shows datanodes n table.now
+        → PutsPiece (flat_map (λ l. l) (take most (unsafe_in datanodes min (replica_at table.now) rows.entry.left))) page.old writer.old page.new writer.new }
+{
+    put_rows(page, writer, rows, table, min, most);
+}
+
+// The same, of the live replicas that the table counts.
+fn put_rows<W: Write>(
     page: &mut Page,
     writer: &mut Writer<W>,
     mut rows: Rows<'_>,
@@ -89,8 +103,7 @@ pub fn put_unsafe_rows<W: Write>(
     most: u64,
 )
     requires room { greatest_depth rows.left ≤ rows.room }
-    requires shows { (n : Namespace) × Shows n table.now }
-    ensures { PutsPiece (flat_map (λ l. l) (take most (unsafe_in min (replica_at table.now) rows.entry.left))) page.old writer.old page.new writer.new }
+    ensures { PutsPiece (flat_map (λ l. l) (take most (unsafe_lines min (live_at table.now) rows.entry.left))) page.old writer.old page.new writer.new }
 {
     let mut kept = Kept { table, min, most };
     'rows: while kept.most > 0 {
@@ -118,7 +131,6 @@ impl<'a> Kept<'a> {
         names: &[&str],
         found: Found<'_>,
     )
-        requires shows { (n : Namespace) × Shows n self.old.table.now }
         ensures put { PutsPiece (kept_lines self.old (flat_map (unsafe_by self.old (lent_names names.now)) (closed_blocks_of (form_of found.entry)))) page.old writer.old page.new writer.new }
         ensures left { self.new ≡ kept_after self.old (flat_map (unsafe_by self.old (lent_names names.now)) (closed_blocks_of (form_of found.entry))) }
     {
@@ -138,7 +150,6 @@ impl<'a> Kept<'a> {
         names: &[&str],
         blocks: &[Block],
     )
-        requires shows { (n : Namespace) × Shows n self.old.table.now }
         ensures put { PutsPiece (kept_lines self.old (flat_map (unsafe_by self.old (lent_names names.now)) blocks.now)) page.old writer.old page.new writer.new }
         ensures left { self.new ≡ kept_after self.old (flat_map (unsafe_by self.old (lent_names names.now)) blocks.now) }
     {
@@ -157,11 +168,10 @@ impl<'a> Kept<'a> {
         names: &[&str],
         block: &Block,
     )
-        requires shows { (n : Namespace) × Shows n self.old.table.now }
         ensures put { PutsPiece (kept_lines self.old (unsafe_by self.old (lent_names names.now) block.now)) page.old writer.old page.new writer.new }
         ensures left { self.new ≡ kept_after self.old (unsafe_by self.old (lent_names names.now) block.now) }
     {
-        let live = live_count(self.table, block);
+        let live = self.table.live_count(block);
         if u64::from(self.min) <= live {
             return;
         }
@@ -170,30 +180,6 @@ impl<'a> Kept<'a> {
         }
         put_unsafe(page, writer, block.id, live, names);
         self.most -= 1;
-    }
-}
-
-// How many live replicas a block has.
-fn live_count(table: &Replicas, block: &Block) -> u64
-    requires shows { (n : Namespace) × Shows n table.now }
-    ensures { result ≡ live_count (replica_at table.now) block.now }
-{
-    let mut live = 0;
-    let mut replicas = table.replicas_of(block.id);
-    'replicas: while let Some((_, replica)) = replicas.next() {
-        if is_live(replica, *block) {
-            live += 1;
-        }
-    }
-    live
-}
-
-fn is_live(replica: Replica, block: Block) -> bool
-    ensures { result ≡ is_live (Some replica) block }
-{
-    match class(replica, block) {
-        Class::Live => true,
-        Class::Stale | Class::Ahead | Class::Building | Class::WrongLength => false,
     }
 }
 

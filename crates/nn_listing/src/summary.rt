@@ -1,5 +1,5 @@
 //! What an operator reads of a standby, a line for each figure.
-ghost use Rattle.std.specs.Prelude.{◌≡◌, flat_map, decimal};
+ghost use Rattle.std.specs.Prelude.{◌≡◌, ◌≤◌, ℕ, length, flat_map, decimal};
 ghost use Rattle.nn_model.specs.Lanes.{Lanes};
 ghost use Rattle.nn_shadow.specs.Contents.{standby_of};
 ghost use Rattle.nn_device.specs.Page.{PutsPiece};
@@ -12,15 +12,14 @@ use crate::tables::put_counts;
 use nn_device::{Page, Writer};
 use nn_replicas::Figures;
 use nn_shadow::Shadow;
-use nn_types::limits::MAX_DATANODES;
 use std::io::Write;
 
 /// Puts what an operator reads of a standby: `txid T` and `held H`, a line for each DataNode that sent messages, one for each
-/// count, and safe mode. It takes no memory, and a time that does not grow with the standby.
+/// count, and safe mode. It takes no memory, and a time that grows with the greatest DataNode that sent a message alone.
 pub fn put_summary<W: Write>(page: &mut Page, writer: &mut Writer<W>, shadow: &Shadow)
     ensures seen { PutsPiece (summary_text (summary_seen shadow.now)) page.old writer.old page.new writer.new }
-    ensures said { (lanes : Lanes) → IsOfSaid shadow.now.namespace lanes shadow.now.table
-        → PutsPiece (summary_text (summary_of shadow.now.permille shadow.now.table.min lanes (standby_of shadow.now))) page.old writer.old page.new writer.new }
+    ensures said { (datanodes : ℕ) (lanes : Lanes) → length shadow.now.numbers ≤ datanodes → IsOfSaid datanodes shadow.now.namespace lanes shadow.now.table
+        → PutsPiece (summary_text (summary_of datanodes shadow.now.permille shadow.now.table.min lanes (standby_of shadow.now))) page.old writer.old page.new writer.new }
 {
     shadow.recall_invariant();
     put_count(page, writer, "txid", shadow.last_txid().get());
@@ -34,10 +33,11 @@ pub fn put_summary<W: Write>(page: &mut Page, writer: &mut Writer<W>, shadow: &S
 
 // Puts a line for each DataNode that sent messages.
 fn put_senders<W: Write>(page: &mut Page, writer: &mut Writer<W>, shadow: &Shadow)
-    ensures { PutsPiece (flat_map (λ dn. sender_text dn (sender_seen shadow.now dn)) datanodes) page.old writer.old page.new writer.new }
+    ensures { PutsPiece (flat_map (λ dn. sender_text dn (sender_seen shadow.now dn)) (datanodes (length shadow.now.numbers))) page.old writer.old page.new writer.new }
 {
+    let greatest = shadow.greatest_sender();
     let mut dn = 0;
-    'datanodes: while dn < MAX_DATANODES {
+    'datanodes: while dn < greatest {
         dn += 1;
         let messages = shadow.last_number(dn);
         let waiting = shadow.held_from(dn) as u64;

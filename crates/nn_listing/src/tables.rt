@@ -50,9 +50,10 @@ impl<'a> ReadyTables<'a> {
         mode: SafeMode,
     ) -> Result<ReadyTables<'a>, AllocError>
         ensures listed { IfOk result (λ tables. tables ≡ lines_of_replicas table.now ++ lines_of_orders table.now ++ blocks_line (counts_of mode)) }
-        ensures said { (n : Namespace) (lanes : Lanes) → IsOfSaid n lanes table.now
-            → IfOk result (λ tables. tables ≡ replica_lines_by n lanes (replica_at table.now) ++ order_lines_by lanes (has_order table.now) ++ blocks_line (counts_of mode)) }
-        ensures pictured { (permille min : ℕ) (n : Namespace) (lanes : Lanes) → IsPicture permille min n lanes table.now (counts_of mode) → IfOk result (λ tables. tables ≡ tables_text permille min n lanes) }
+        ensures said { (datanodes : ℕ) (n : Namespace) (lanes : Lanes) → IsOfSaid datanodes n lanes table.now
+            → IfOk result (λ tables. tables ≡ replica_lines_by datanodes n lanes (replica_at table.now) ++ order_lines_by datanodes lanes (has_order table.now) ++ blocks_line (counts_of mode)) }
+        ensures pictured { (datanodes permille min : ℕ) (n : Namespace) (lanes : Lanes) → IsPicture datanodes permille min n lanes table.now (counts_of mode)
+            → IfOk result (λ tables. tables ≡ tables_text datanodes permille min n lanes) }
     {
         ReadyTables::listed(alloc, table, mode)
     }

@@ -50,7 +50,7 @@ same_tables start base txs lanes counted x y s t p q =
       last = s.last ∙ sym t.last;
       replicas = replica;
       orders = λ dn id. s.orders dn id ∙ p.orders dn id ∙ sym (t.orders dn id ∙ q.orders dn id);
-      safe_mode = λ permille min. λ i. safe_mode_of permille min (namespaces i) (λ dn id. replica dn id i);
+      safe_mode = λ datanodes permille min. λ i. safe_mode_of datanodes permille min (namespaces i) (λ dn id. replica dn id i);
     }
 
 pub same_when_flushed : SameWhenFlushed

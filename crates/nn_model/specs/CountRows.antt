@@ -44,15 +44,15 @@ live_ones : map (λ r. is_live r the_block)
     ≡ false ∷ false ∷ false ∷ false ∷ true ∷ false ∷ []
 live_ones = refl
 
--- ---- DataNodes 1 to 256 count, and no others.
+-- ---- DataNodes from 1 to their number count, and no others.
 
 abbrev at_node : ℕ → ℕ → ℕ → Option Replica
 at_node n dn id = if (dn == n) && (id == b) then Some (received 1002 5) else None
 
-datanodes : map (λ n. live_count (at_node n) the_block) (0 ∷ 1 ∷ 256 ∷ 257 ∷ []) ≡ 0 ∷ 1 ∷ 1 ∷ 0 ∷ []
+datanodes : map (λ n. live_count 256 (at_node n) the_block) (0 ∷ 1 ∷ 256 ∷ 257 ∷ []) ≡ 0 ∷ 1 ∷ 1 ∷ 0 ∷ []
 datanodes = refl
 
-all_of_them : live_count (λ dn id. Some (received 1002 5)) the_block ≡ 256
+all_of_them : map (λ n. live_count n (λ dn id. Some (received 1002 5)) the_block) (0 ∷ 1 ∷ 3 ∷ 256 ∷ []) ≡ 0 ∷ 1 ∷ 3 ∷ 256 ∷ []
 all_of_them = refl
 
 -- ---- Blocks of closed files count, and no others.
@@ -79,13 +79,13 @@ totals : total_of two_files ≡ 2
 totals = refl
 
 -- two blocks have one live replica, one has two, and none has three
-safe_ones : map (λ least. safe_of least two_files some_replicas) (1 ∷ 2 ∷ 3 ∷ []) ≡ 2 ∷ 1 ∷ 0 ∷ []
+safe_ones : map (λ least. safe_of 3 least two_files some_replicas) (1 ∷ 2 ∷ 3 ∷ []) ≡ 2 ∷ 1 ∷ 0 ∷ []
 safe_ones = refl
 
-safe_modes : map (λ permille. (safe_mode_of permille 2 two_files some_replicas).on) (0 ∷ 500 ∷ 999 ∷ 1000 ∷ []) ≡ false ∷ false ∷ false ∷ true ∷ []
+safe_modes : map (λ permille. (safe_mode_of 3 permille 2 two_files some_replicas).on) (0 ∷ 500 ∷ 999 ∷ 1000 ∷ []) ≡ false ∷ false ∷ false ∷ true ∷ []
 safe_modes = refl
 
-safe_mode_whole : safe_mode_of 1000 2 two_files some_replicas ≡ record { total = 2; safe = 1; needed = 2; on = true }
+safe_mode_whole : safe_mode_of 3 1000 2 two_files some_replicas ≡ record { total = 2; safe = 1; needed = 2; on = true }
 safe_mode_whole = refl
 
 -- ---- The block of a file that is open again leaves the counts, though its replica stays live.
@@ -94,11 +94,11 @@ abbrev one_replica : ℕ → ℕ → Option Replica
 one_replica dn id = if (dn == 1) && (id == b) then Some (received 1001 5) else None
 
 -- closed, and open again
-append_reopens : map (λ k. safe_mode_of 1000 1 (namespace_after root_alone (take k reopened_log)) one_replica) (6 ∷ 9 ∷ [])
+append_reopens : map (λ k. safe_mode_of 3 1000 1 (namespace_after root_alone (take k reopened_log)) one_replica) (6 ∷ 9 ∷ [])
     ≡ record { total = 1; safe = 1; needed = 1; on = false } ∷ record { total = 0; safe = 0; needed = 0; on = false } ∷ []
 append_reopens = refl
 
-append_leaves_it_live : live_count one_replica (block b 1001 5) ≡ 1
+append_leaves_it_live : live_count 3 one_replica (block b 1001 5) ≡ 1
 append_leaves_it_live = refl
 
 -- ---- The threshold of a thousand blocks, and of one more.

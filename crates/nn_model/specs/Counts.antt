@@ -9,7 +9,6 @@ use Rattle.nn_types.specs.declared.replica.Replica.{Replica}
 use Rattle.nn_types.specs.declared.replica.Class.{Class}
 use Rattle.nn_types.specs.declared.replica.Class.TheVariants.{Stale, Ahead, Building, Live, WrongLength}
 use Rattle.nn_types.specs.Settings.{needed_of}
-use Rattle.nn_types.specs.Limits.{max_datanodes}
 use Rattle.nn_model.specs.Namespace.{Namespace}
 
 -- ---- One replica.
@@ -39,7 +38,7 @@ abbrev pub is_live : Option Replica → Block → Bool
 is_live None b = false
 is_live (Some r) b = is_live_class (class_of r b)
 
--- ---- The counts. `replicas` gives the replica of a DataNode and a block.
+-- ---- The counts. DataNodes are 1 to `datanodes`, and `replicas` gives the replica of a DataNode and a block.
 
 -- the blocks of closed files
 abbrev pub closed_blocks_of : Form → List Block
@@ -49,22 +48,18 @@ closed_blocks_of (File file) = if file.closed then file.blocks else []
 abbrev pub closed_blocks : Namespace → List Block
 closed_blocks n = flat_map (λ row. closed_blocks_of row.1) n.rows
 
--- how many of the DataNodes from 1 to this one have a live replica of the block
-abbrev pub live_up_to : ℕ → (ℕ → ℕ → Option Replica) → Block → ℕ
-live_up_to zero replicas b = 0
-live_up_to (suc dn) replicas b = (if is_live (replicas (suc dn) b.id) b then 1 else 0) + live_up_to dn replicas b
-
--- DataNodes are 1 to 256
-abbrev pub live_count : (ℕ → ℕ → Option Replica) → Block → ℕ
-live_count replicas b = live_up_to max_datanodes replicas b
+-- how many of them have a live replica of the block
+abbrev pub live_count : ℕ → (ℕ → ℕ → Option Replica) → Block → ℕ
+live_count zero replicas b = 0
+live_count (suc dn) replicas b = (if is_live (replicas (suc dn) b.id) b then 1 else 0) + live_count dn replicas b
 
 -- how many blocks closed files have
 abbrev pub total_of : Namespace → ℕ
 total_of n = length (closed_blocks n)
 
 -- how many of them have at least this many live replicas
-abbrev pub safe_of : ℕ → Namespace → (ℕ → ℕ → Option Replica) → ℕ
-safe_of min n replicas = length (filter (λ b. nat_le min (live_count replicas b)) (closed_blocks n))
+abbrev pub safe_of : ℕ → ℕ → Namespace → (ℕ → ℕ → Option Replica) → ℕ
+safe_of datanodes min n replicas = length (filter (λ b. nat_le min (live_count datanodes replicas b)) (closed_blocks n))
 
 -- ---- Safe mode.
 
@@ -83,5 +78,5 @@ safe_mode_from permille total safe = record {
   on = nat_lt safe (needed_of permille total);
 }
 
-abbrev pub safe_mode_of : ℕ → ℕ → Namespace → (ℕ → ℕ → Option Replica) → SafeMode
-safe_mode_of permille min n replicas = safe_mode_from permille (total_of n) (safe_of min n replicas)
+abbrev pub safe_mode_of : ℕ → ℕ → ℕ → Namespace → (ℕ → ℕ → Option Replica) → SafeMode
+safe_mode_of datanodes permille min n replicas = safe_mode_from permille (total_of n) (safe_of datanodes min n replicas)

@@ -71,7 +71,7 @@ pub record ShowSame (x y : StandbyState) : Type 0 where
   pub last : x.last ≡ y.last
   pub replicas : (dn id : ℕ) → x.replica dn id ≡ y.replica dn id
   pub orders : (dn id : ℕ) → x.has_order dn id ≡ y.has_order dn id
-  pub safe_mode : (permille min : ℕ) → safe_mode_of permille min x.namespace x.replica ≡ safe_mode_of permille min y.namespace y.replica
+  pub safe_mode : (datanodes permille min : ℕ) → safe_mode_of datanodes permille min x.namespace x.replica ≡ safe_mode_of datanodes permille min y.namespace y.replica
 
 -- after their flush two standbys that stand at one log and at the same lanes show the same
 abbrev pub SameWhenFlushed : Type 0

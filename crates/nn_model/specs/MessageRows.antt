@@ -170,7 +170,7 @@ early_report_released_picture : (picture_replica early_end early_lanes 1 b ≡ S
 early_report_released_picture = (refl, refl)
 
 early_report_released_counts : let s = replay root_alone early_log early_lanes early_history in
-    safe_mode_of 999 1 s.namespace s.replica ≡ record { total = 1; safe = 1; needed = 0; on = false }
+    safe_mode_of 3 999 1 s.namespace s.replica ≡ record { total = 1; safe = 1; needed = 0; on = false }
 early_report_released_counts = refl
 
 -- ---- A report with a generation stamp that never comes holds back the next one of its DataNode, and no other DataNode's.
@@ -256,5 +256,5 @@ future_report_flushed_picture : (picture_replica early_end future_lanes 1 b ≡ 
 future_report_flushed_picture = (refl, refl, refl)
 
 future_report_flushed_counts : let s = replay root_alone early_log future_lanes future_history in
-    (class_of (received far 5) (block b 1001 5) ≡ Ahead) × (safe_mode_of 999 1 s.namespace s.replica ≡ record { total = 1; safe = 1; needed = 0; on = false })
+    (class_of (received far 5) (block b 1001 5) ≡ Ahead) × (safe_mode_of 3 999 1 s.namespace s.replica ≡ record { total = 1; safe = 1; needed = 0; on = false })
 future_report_flushed_counts = (refl, refl)

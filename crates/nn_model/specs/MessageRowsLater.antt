@@ -68,11 +68,11 @@ raised_generation_is_stale_lawful = record {
 
 -- before the second report the replica is stale, and safe mode is on
 raised_generation_is_stale_counts : let s = replay root_alone raised_log raised_lanes (take 10 raised_history) in
-    (s.replica 1 b ≡ Some (received 1001 5)) × (safe_mode_of 1000 1 s.namespace s.replica ≡ record { total = 1; safe = 0; needed = 1; on = true })
+    (s.replica 1 b ≡ Some (received 1001 5)) × (safe_mode_of 3 1000 1 s.namespace s.replica ≡ record { total = 1; safe = 0; needed = 1; on = true })
 raised_generation_is_stale_counts = (refl, refl)
 
 raised_generation_is_stale_no_more : let s = replay root_alone raised_log raised_lanes raised_history in
-    (s.replica 1 b ≡ Some (received 1002 5)) × (safe_mode_of 1000 1 s.namespace s.replica ≡ record { total = 1; safe = 1; needed = 1; on = false })
+    (s.replica 1 b ≡ Some (received 1002 5)) × (safe_mode_of 3 1000 1 s.namespace s.replica ≡ record { total = 1; safe = 1; needed = 1; on = false })
 raised_generation_is_stale_no_more = (refl, refl)
 
 raised_generation_is_stale_picture : picture_replica raised_end raised_lanes 1 b ≡ Some (received 1002 5)

@@ -73,7 +73,7 @@ left_out_block_is_retired_picture : (picture_replica left_out_end left_out_lanes
 left_out_block_is_retired_picture = (refl, refl)
 
 left_out_block_is_retired_counts : let s = replay root_alone left_out_log left_out_lanes left_out_history in
-    safe_mode_of 999 1 s.namespace s.replica ≡ record { total = 1; safe = 0; needed = 0; on = false }
+    safe_mode_of 3 999 1 s.namespace s.replica ≡ record { total = 1; safe = 0; needed = 0; on = false }
 left_out_block_is_retired_counts = refl
 
 -- ---- One edit frees the messages about two blocks: they are processed by block id, and not as they came.
@@ -146,7 +146,7 @@ released_by_block_lawful = record {
 
 released_by_block_counts : let s = replay root_alone released_log released_lanes released_history in
     (map (s.replica 1) (b ∷ c ∷ []) ≡ Some (received 1002 5) ∷ Some (received 1002 5) ∷ [])
-    × (safe_mode_of 999 1 s.namespace s.replica ≡ record { total = 2; safe = 2; needed = 1; on = false })
+    × (safe_mode_of 3 999 1 s.namespace s.replica ≡ record { total = 2; safe = 2; needed = 1; on = false })
 released_by_block_counts = (refl, refl)
 
 released_by_block_picture : map (picture_replica (namespace_after root_alone released_log) released_lanes 1) (b ∷ c ∷ [])

@@ -7,9 +7,10 @@ use Rattle.std.specs.List.Sorted.{IsStrictlySortedBy}
 use Rattle.std.specs.FinMap.Entries.{find, put, is_sorted}
 use Rattle.std.proofs.lemmas.Bool.{both_ways}
 use Rattle.std.proofs.lemmas.Map.{keys-set_value}
+use Rattle.nn_types.specs.declared.block.Block.{Block}
 use Rattle.nn_replicas.specs.Table.{BlockEntry, Replicas}
-use Rattle.nn_replicas.specs.Entry.{is_ordered, replicas_in, ordered_in, no_entry}
-use Rattle.nn_replicas.specs.Calls.{entry_at, entry_or_none, replicas_at, orders_at, has_order, is_placed, has_entry, with_entry, changed_from, changed_at}
+use Rattle.nn_replicas.specs.Entry.{is_ordered, live_cells, replicas_in, ordered_in, no_entry}
+use Rattle.nn_replicas.specs.Calls.{entry_at, entry_or_none, replicas_at, live_at, orders_at, has_order, is_placed, has_entry, with_entry, changed_from, changed_at}
 use Rattle.nn_replicas.proofs.Entries.{sorted_of, lookup_is_find, insert_is_put, set_is_put, put_same}
 
 abbrev pub Entries : Type 0
@@ -93,6 +94,12 @@ no_replicas t min b es e h = ap (λ o. replicas_in (unwrap_or o no_entry).cells)
 
 pub replicas_there : (t : Replicas) (min b : ℕ) (es : Entries) (v : BlockEntry) → table min es ≡ t → Some v ≡ lookup (is_at (nat_cmp b)) es → replicas_in v.cells ≡ replicas_at t b
 replicas_there t min b es v e h = ap (λ o. replicas_in (unwrap_or o no_entry).cells) (h ∙ lookup_is_find b es) ∙ ap (λ x. replicas_at x b) e
+
+pub no_live : (t : Replicas) (min : ℕ) (b : Block) (es : Entries) → table min es ≡ t → None ≡ lookup (is_at (nat_cmp b.id)) es → 0 ≡ live_at t b
+no_live t min b es e h = ap (λ o. live_cells b (unwrap_or o no_entry).cells) (h ∙ lookup_is_find b.id es) ∙ ap (λ x. live_at x b) e
+
+pub live_there : (t : Replicas) (min : ℕ) (b : Block) (es : Entries) (v : BlockEntry) → table min es ≡ t → Some v ≡ lookup (is_at (nat_cmp b.id)) es → live_cells b v.cells ≡ live_at t b
+live_there t min b es v e h = ap (λ o. live_cells b (unwrap_or o no_entry).cells) (h ∙ lookup_is_find b.id es) ∙ ap (λ x. live_at x b) e
 
 pub no_orders : (t : Replicas) (min b : ℕ) (es : Entries) → table min es ≡ t → None ≡ lookup (is_at (nat_cmp b)) es → [] ≡ orders_at t b
 no_orders t min b es e h = ap (λ o. ordered_in (unwrap_or o no_entry).cells) (h ∙ lookup_is_find b es) ∙ ap (λ x. orders_at x b) e

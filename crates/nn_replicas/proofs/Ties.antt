@@ -19,14 +19,14 @@ use Rattle.nn_model.specs.declared.form.BlockRow.{BlockRow}
 use Rattle.nn_model.specs.Namespace.{Path, Namespace, all_blocks}
 use Rattle.nn_model.specs.Blocks.{block_row, block_rows_of, block_rows}
 use Rattle.nn_model.specs.WellFormed.{Includes, times, HasWellFormedBlocks}
-use Rattle.nn_model.specs.Counts.{class_of, is_live, live_up_to, live_count, closed_blocks_of, closed_blocks}
+use Rattle.nn_model.specs.Counts.{class_of, is_live, live_count, closed_blocks_of, closed_blocks, total_of, safe_mode_from, safe_mode_of}
 use Rattle.nn_model.proofs.InRows.{all_in, has_left, has_right}
 use Rattle.nn_model.proofs.Members.{rows_in, blocks_of_all}
 use Rattle.nn_replicas.specs.declared.entry.Cell.{Cell}
 use Rattle.nn_replicas.specs.Table.{BlockEntry, Replicas}
 use Rattle.nn_replicas.specs.Entry.{no_entry, is_closed, is_closed_row, is_safe, is_safe_row, live_cells, replication_in}
 use Rattle.nn_replicas.specs.Figures.{is_class, cells_of, replicas_of, live_of, one_if}
-use Rattle.nn_replicas.specs.Agreement.{replications_of, Shows, class_up_to, class_count, passing_in, passing, HasCounts, CountsAgree}
+use Rattle.nn_replicas.specs.Agreement.{replications_of, Shows, class_count, passing_in, passing, HasCounts, CountsAgree}
 use Rattle.nn_replicas.specs.Calls.{entry_or_none, replica_at, replication_at}
 use Rattle.nn_replicas.proofs.Entries.{share, summed, summed_put, summed_cons, counted_cons, tail_sorted, put_sorted, find_below, halves, same_some}
 use Rattle.nn_replicas.proofs.Lookups.{find_put, eq_is}
@@ -181,25 +181,25 @@ abbrev is_of : Class → Block → Option Replica → Bool
 is_of class b o = is_class class (option_map (λ (r : Replica). class_of r b) o)
 
 module _ (b : Block) where
-  pub cells_live : (n : ℕ) (xs : List (ℕ × Cell)) → is_sorted nat_cmp xs ≡ true → ((dn : ℕ) → is_some (find nat_cmp dn xs) ≡ true → (1 ≤ dn) × (dn ≤ n)) → live_cells b xs ≡ live_up_to n (of_cells xs) b
+  pub cells_live : (n : ℕ) (xs : List (ℕ × Cell)) → is_sorted nat_cmp xs ≡ true → ((dn : ℕ) → is_some (find nat_cmp dn xs) ≡ true → (1 ≤ dn) × (dn ≤ n)) → live_cells b xs ≡ live_count n (of_cells xs) b
   cells_live n xs s h = cells_pass (λ o. is_live o b) refl n xs s h ∙ as_live n
     where
-      as_live : (n : ℕ) → up_to (λ o. is_live o b) refl n xs ≡ live_up_to n (of_cells xs) b
+      as_live : (n : ℕ) → up_to (λ o. is_live o b) refl n xs ≡ live_count n (of_cells xs) b
       as_live zero = refl
       as_live (suc n) = ap (λ k. cond (is_live (of_cells xs (suc n) b.id) b) 1 0 + k) (as_live n)
 
-  pub same_live : (n : ℕ) (f g : ℕ → ℕ → Option Replica) → ((dn : ℕ) → f dn b.id ≡ g dn b.id) → live_up_to n f b ≡ live_up_to n g b
+  pub same_live : (n : ℕ) (f g : ℕ → ℕ → Option Replica) → ((dn : ℕ) → f dn b.id ≡ g dn b.id) → live_count n f b ≡ live_count n g b
   same_live zero f g h = refl
   same_live (suc n) f g h = λ i. cond (is_live (h (suc n) i) b) 1 0 + same_live n f g h i
 
-  cells_in : (class : Class) (n : ℕ) (xs : List (ℕ × Cell)) → is_sorted nat_cmp xs ≡ true → ((dn : ℕ) → is_some (find nat_cmp dn xs) ≡ true → (1 ≤ dn) × (dn ≤ n)) → cells_of class b xs ≡ class_up_to class n (of_cells xs) b
+  cells_in : (class : Class) (n : ℕ) (xs : List (ℕ × Cell)) → is_sorted nat_cmp xs ≡ true → ((dn : ℕ) → is_some (find nat_cmp dn xs) ≡ true → (1 ≤ dn) × (dn ≤ n)) → cells_of class b xs ≡ class_count class n (of_cells xs) b
   cells_in class n xs s h = cells_pass (is_of class b) refl n xs s h ∙ as_class n
     where
-      as_class : (n : ℕ) → up_to (is_of class b) refl n xs ≡ class_up_to class n (of_cells xs) b
+      as_class : (n : ℕ) → up_to (is_of class b) refl n xs ≡ class_count class n (of_cells xs) b
       as_class zero = refl
       as_class (suc n) = ap (λ k. one_if (is_of class b (of_cells xs (suc n) b.id)) + k) (as_class n)
 
-  same_in : (class : Class) (n : ℕ) (f g : ℕ → ℕ → Option Replica) → ((dn : ℕ) → f dn b.id ≡ g dn b.id) → class_up_to class n f b ≡ class_up_to class n g b
+  same_in : (class : Class) (n : ℕ) (f g : ℕ → ℕ → Option Replica) → ((dn : ℕ) → f dn b.id ≡ g dn b.id) → class_count class n f b ≡ class_count class n g b
   same_in class zero f g h = refl
   same_in class (suc n) f g h = λ i. one_if (is_of class b (h (suc n) i)) + same_in class n f g h i
 
@@ -268,22 +268,22 @@ listed_form p (File file) = closed_in_file p file.closed file.blocks ∙ by_clos
     by_closed true = sym (length-filter p file.blocks)
     by_closed false = refl
 
-module _ (n : Namespace) (t : Replicas) (well : HasWellFormedBlocks n) (shows : Shows n t) where
+module _ (datanodes : ℕ) (n : Namespace) (t : Replicas) (well : HasWellFormedBlocks n) (shows : Shows datanodes n t) where
   abbrev live : Block → ℕ
-  live b = live_count (replica_at t) b
+  live b = live_count datanodes (replica_at t) b
 
   shown_sum : (w : BlockEntry → ℕ) → w no_entry ≡ 0 → (v : BlockRow → ℕ) → ((id : ℕ) → w (entry_or_none t id) ≡ by_row v (row_at id (block_rows n))) → summed w t.entries ≡ row_sum v (block_rows n)
   shown_sum w none v h = sums_rows w none v (block_rows n) t.entries shows.in_order.blocks (λ id. subst (λ bs. times id bs ≤ 1) (sym (blocks_of_all n.rows)) (well.once id)) h
 
   live_here : (id : ℕ) (b : Block) → b.id ≡ id → live_cells b (entry_or_none t id).cells ≡ live b
   live_here id b e =
-      cells_live b 256 (entry_or_none t id).cells (shows.in_order.datanodes id) (λ dn h. shows.datanodes dn id h)
-      ∙ same_live b 256 (of_cells (entry_or_none t id).cells) (replica_at t) (λ dn. ap (replica_at t dn) (sym e))
+      cells_live b datanodes (entry_or_none t id).cells (shows.in_order.datanodes id) (λ dn h. shows.datanodes dn id h)
+      ∙ same_live b datanodes (of_cells (entry_or_none t id).cells) (replica_at t) (λ dn. ap (replica_at t dn) (sym e))
 
-  class_here : (class : Class) (id : ℕ) (b : Block) → b.id ≡ id → cells_of class b (entry_or_none t id).cells ≡ class_count class (replica_at t) b
+  class_here : (class : Class) (id : ℕ) (b : Block) → b.id ≡ id → cells_of class b (entry_or_none t id).cells ≡ class_count class datanodes (replica_at t) b
   class_here class id b e =
-      cells_in b class 256 (entry_or_none t id).cells (shows.in_order.datanodes id) (λ dn h. shows.datanodes dn id h)
-      ∙ same_in b class 256 (of_cells (entry_or_none t id).cells) (replica_at t) (λ dn. ap (replica_at t dn) (sym e))
+      cells_in b class datanodes (entry_or_none t id).cells (shows.in_order.datanodes id) (λ dn h. shows.datanodes dn id h)
+      ∙ same_in b class datanodes (of_cells (entry_or_none t id).cells) (replica_at t) (λ dn. ap (replica_at t dn) (sym e))
 
   -- an entry by its row, which is the namespace's
   by_its_row : (w : BlockEntry → ℕ) (v : BlockRow → ℕ) → ((e : BlockEntry) → e.row ≡ None → w e ≡ 0) → ((id : ℕ) (r : BlockRow) → (entry_or_none t id).row ≡ Some r → r.block.id ≡ id → w (entry_or_none t id) ≡ v r)
@@ -309,22 +309,22 @@ module _ (n : Namespace) (t : Replicas) (well : HasWellFormedBlocks n) (shows : 
         ∙ ap (λ l. one_if (r.closed && test e.replication l)) (live_here id r.block at)
         ∙ ap (λ k. one_if (r.closed && test k (live r.block))) own)
 
-    tested_form : (form : Form) → ((x : Block × ℕ) → Includes (replications_of form) x → Includes (all_in replications_of n.rows) x) → row_sum tested (block_rows_of form) ≡ passing_in test (replica_at t) form
+    tested_form : (form : Form) → ((x : Block × ℕ) → Includes (replications_of form) x → Includes (all_in replications_of n.rows) x) → row_sum tested (block_rows_of form) ≡ passing_in test datanodes (replica_at t) form
     tested_form Dir within = refl
     tested_form (File file) within =
         closed_in_file (λ b. test (replication_at t b.id) (live b)) file.closed file.blocks
         ∙ ap (λ k. cond file.closed k 0) (count_alike (λ b. test (replication_at t b.id) (live b)) (λ b. test file.replication (live b)) file.blocks
         (λ b here. ap (λ k. test k (live b)) (shows.replications (b, file.replication) (within (b, file.replication) (with_number file.blocks file.replication b here)))))
 
-    passed : summed (λ e. one_if (is_closed e && test e.replication (live_of e))) t.entries ≡ passing test n (replica_at t)
+    passed : summed (λ e. one_if (is_closed e && test e.replication (live_of e))) t.entries ≡ passing test datanodes n (replica_at t)
     passed =
         shown_sum (λ e. one_if (is_closed e && test e.replication (live_of e))) refl tested tested_here
-        ∙ file_sums tested (passing_in test (replica_at t)) n.rows tested_form
+        ∙ file_sums tested (passing_in test datanodes (replica_at t)) n.rows tested_form
 
   -- replicas of a class
-  classed : (class : Class) → summed (λ e. replicas_of class e) t.entries ≡ sum_by (λ b. class_count class (replica_at t) b) (all_blocks n)
+  classed : (class : Class) → summed (λ e. replicas_of class e) t.entries ≡ sum_by (λ b. class_count class datanodes (replica_at t) b) (all_blocks n)
   classed class =
-      let count = λ (b : Block). class_count class (replica_at t) b in
+      let count = λ (b : Block). class_count class datanodes (replica_at t) b in
       shown_sum (λ e. replicas_of class e) refl (λ r. count r.block)
       (by_its_row (λ e. replicas_of class e) (λ r. count r.block) (λ e none. ap (λ o. replicas_of class (record e { row = o })) none)
       (λ id r is at. ap (λ o. replicas_of class (record (entry_or_none t id) { row = o })) is ∙ class_here class id r.block at))
@@ -337,7 +337,7 @@ module _ (n : Namespace) (t : Replicas) (well : HasWellFormedBlocks n) (shows : 
       ∙ file_sums (closed_that p) (λ form. length (filter p (closed_blocks_of form))) n.rows (λ form within. listed_form p form)
       ∙ listed_in p n.rows
 
-  pub counts : HasCounts n t
+  pub counts : HasCounts datanodes n t
   counts = record {
     total =
         closed_sum (λ e. one_if (is_closed e)) (λ b. true) refl
@@ -360,4 +360,25 @@ module _ (n : Namespace) (t : Replicas) (well : HasWellFormedBlocks n) (shows : 
   }
 
 pub counts_agree : CountsAgree
-counts_agree n t well shows = counts n t well shows
+counts_agree datanodes n t well shows = counts datanodes n t well shows
+
+-- ---- more DataNodes
+
+-- a table of so many DataNodes is one of more
+pub shows_more : (few many : ℕ) (n : Namespace) (t : Replicas) → few ≤ many → Shows few n t → Shows many n t
+shows_more few many n t more s = record {
+  in_order = s.in_order;
+  rows = s.rows;
+  replications = s.replications;
+  datanodes = λ dn id here. let within = s.datanodes dn id here in (within.0, omega (arith, within.1, more));
+}
+
+-- and has as many live replicas
+pub live_more : (few many : ℕ) (n : Namespace) (t : Replicas) → HasWellFormedBlocks n → few ≤ many → Shows few n t → (b : Block) → live_count many (replica_at t) b ≡ live_count few (replica_at t) b
+live_more few many n t well more s b = sym (live_here many n t well (shows_more few many n t more s) b.id b refl) ∙ live_here few n t well s b.id b refl
+
+-- and is as safe
+pub safe_mode_more : (few many permille min : ℕ) (n : Namespace) (t : Replicas) → HasWellFormedBlocks n → few ≤ many → Shows few n t
+    → safe_mode_of many permille min n (replica_at t) ≡ safe_mode_of few permille min n (replica_at t)
+safe_mode_more few many permille min n t well more s =
+    λ i. safe_mode_from permille (total_of n) (length (filter (λ b. nat_le min (live_more few many n t well more s b i)) (closed_blocks n)))

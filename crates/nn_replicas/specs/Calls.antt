@@ -15,7 +15,7 @@ use Rattle.nn_replicas.specs.declared.entry.Cell.{Cell}
 use Rattle.nn_replicas.specs.declared.entry.Told.{Told}
 use Rattle.nn_replicas.specs.declared.entry.Told.TheVariants.{Room}
 use Rattle.nn_replicas.specs.Table.{BlockEntry, Replicas}
-use Rattle.nn_replicas.specs.Entry.{is_ordered, no_entry, entry_with_row, with_place, with_put, with_erased, with_told, retired, stamp_in, told_by, replication_in, rows_in, replicas_in, ordered_in, orders_in}
+use Rattle.nn_replicas.specs.Entry.{is_ordered, no_entry, entry_with_row, with_place, with_put, with_erased, with_told, retired, stamp_in, told_by, replication_in, rows_in, replicas_in, live_cells, ordered_in, orders_in}
 use Rattle.nn_replicas.specs.Entry.{is_closed, is_safe, is_idle}
 
 -- ---- What it answers.
@@ -74,6 +74,10 @@ is_idle_at t id = is_idle (entry_or_none t id)
 -- the DataNodes with a replica of the block, and the replicas
 abbrev pub replicas_at : Replicas → ℕ → List (ℕ × Replica)
 replicas_at t id = replicas_in (entry_or_none t id).cells
+
+-- how many DataNodes have a live replica of the block
+abbrev pub live_at : Replicas → Block → ℕ
+live_at t b = live_cells b (entry_or_none t b.id).cells
 
 -- the DataNodes that are to delete what they have of the block
 abbrev pub orders_at : Replicas → ℕ → List ℕ

@@ -2,7 +2,7 @@
 use Rattle.std.specs.Prelude.{◌≡◌, ℕ, ◌*◌, true, false, List, [], ◌∷◌, map, Some, None, refl}
 use Rattle.nn_types.specs.declared.report.Kind.TheVariants.{Receiving, Received}
 use Rattle.nn_replicas.specs.Table.{Replicas}
-use Rattle.nn_replicas.specs.Calls.{empty_table, block_set, replica_put, block_retired, room_given_back}
+use Rattle.nn_replicas.specs.Calls.{live_at, empty_table, block_set, replica_put, block_retired, room_given_back}
 use Rattle.nn_replicas.specs.Figures.{figures_of, no_figures, replaced, unsafe_from}
 use Rattle.nn_replicas.specs.declared.figures.Figures.{Figures}
 use Rattle.nn_replicas.specs.TableRows.{b, c, block, block_b, replica, named, raised, reported, gone, stray, placed, done}
@@ -71,6 +71,10 @@ looked = refl
 
 too_few_of_two : unsafe_from (record three { min = 2 }) 1073741827 ≡ (1073741827, Some 1) ∷ []
 too_few_of_two = refl
+
+-- a block as it is, and with a stamp that its replicas have not
+live_ones : map (λ stamp. live_at (two_of 1) (block_b stamp)) (1001 ∷ 1002 ∷ []) ≡ 2 ∷ 0 ∷ []
+live_ones = refl
 
 -- ---- Where one block changes.
 

@@ -210,6 +210,13 @@ impl Entry {
         None
     }
 
+    // How many live replicas the block has as a file would hold it.
+    pub fn live_count(&self, block: &Block) -> u64
+        ensures { result ≡ live_cells block.now self.now.cells }
+    {
+        live_in(self.cells.as_slice(), block)
+    }
+
     // Whether the DataNode has a cell.
     pub fn has_cell(&self, dn: u16) -> bool
         ensures { result ≡ has_cell self.now dn }

@@ -3,7 +3,7 @@ ghost use Rattle.std.specs.Prelude.{◌≡◌, ◌≤◌, ◌<◌, ◌+◌, ◌^
 ghost use Rattle.std.specs.FinMap.Entries.{is_sorted};
 ghost use Rattle.std.specs.List.Sorted.{IsStrictlySortedBy};
 ghost use Rattle.std.specs.Ordering.{nat_cmp};
-ghost use Rattle.nn_replicas.specs.Calls.{table_rows, replicas_at, orders_at, orders_of, AreAscending, has_order, is_placed, entry_at, has_entry, is_kept, with_entry, empty_table, room_made, block_set, pair_placed, replica_put, replica_erased, stamp_at, due_told, block_retired, room_given_back};
+ghost use Rattle.nn_replicas.specs.Calls.{table_rows, replicas_at, live_at, orders_at, orders_of, AreAscending, has_order, is_placed, entry_at, has_entry, is_kept, with_entry, empty_table, room_made, block_set, pair_placed, replica_put, replica_erased, stamp_at, due_told, block_retired, room_given_back};
 ghost use Rattle.nn_replicas.specs.Entry.{has_cell};
 ghost use Rattle.nn_replicas.specs.Figures.{figures_of, unsafe_from, grown};
 
@@ -290,6 +290,16 @@ impl Replicas {
             return ReplicasOf::new(&[]);
         };
         entry.replicas()
+    }
+
+    /// How many DataNodes have a live replica of a block that a file holds so. O(log blocks + replicas of the block).
+    pub fn live_count(&self, block: &Block) -> u64
+        ensures { result ≡ live_at self.now block.now }
+    {
+        let Some(entry) = self.entries.get(&block.id) else {
+            return 0;
+        };
+        entry.live_count(block)
     }
 
     /// The rows of the blocks that files hold, each with its block id, by ascending block id.

@@ -195,7 +195,7 @@ is_blank n min t w h =
     let known : AreOf n (block_rows n) = λ r here. row_known (block_rows n) r r.block.id (subst (λ bs. times r.block.id bs ≤ 1) (sym (blocks_of_all n.rows)) (w.blocks.once r.block.id)) here refl in
     let all = files_have_rows n min t n.rows known h in
     record {
-      shows = record {
+      shows = λ most. record {
         in_order = all.in_order;
         rows = all.rows;
         replications = λ x here. files_number t n.rows x here (w.blocks.once x.0.id);
@@ -261,7 +261,7 @@ nothing_here (suc lanes) (suc place) = nothing_here lanes place
 
 -- ---- a standby that begins
 
-all_zero : (lanes dn : ℕ) → last_number_in (replicate lanes 0) dn ≡ 0
+pub all_zero : (lanes dn : ℕ) → last_number_in (replicate lanes 0) dn ≡ 0
 all_zero lanes zero = refl
 all_zero lanes (suc place) = no_number lanes place
 

@@ -14,11 +14,13 @@ use Rattle.nn_types.specs.declared.report.Message.{Message}
 use Rattle.nn_types.specs.declared.report.Kind.{Kind}
 use Rattle.nn_types.specs.declared.report.Kind.TheVariants.{Receiving, Received, Deleted, Begin, Listed, Finish}
 use Rattle.nn_types.specs.declared.event.Cause.TheVariants.{Due}
+use Rattle.nn_types.specs.Limits.{max_datanodes}
 use Rattle.nn_model.specs.WellFormed.{Includes}
 use Rattle.nn_model.specs.History.{History, processed}
 use Rattle.nn_model.specs.Stands.{StandbyState}
 use Rattle.nn_model.specs.Items.{NodeState, nothing_known, with_items, revoked, left_out, finished, added, added_as, begun_after}
 use Rattle.nn_replicas.specs.Table.{Replicas}
+use Rattle.nn_replicas.specs.Agreement.{Shows}
 use Rattle.nn_replicas.specs.Calls.{is_placed, pair_placed}
 use Rattle.nn_replicas.specs.Effects.{is_pair}
 use Rattle.nn_replicas.proofs.Lookups.{place_places}
@@ -228,7 +230,7 @@ had_sound x hs is c = record {
   settled = c.settled;
 }
 
-lane_of : (n dn : ℕ) → is_lane n dn ≡ true → (1 ≤ dn) × (dn ≤ n)
+pub lane_of : (n dn : ℕ) → is_lane n dn ≡ true → (1 ≤ dn) × (dn ≤ n)
 lane_of n dn lane = let l = and_parts (nat_le 1 dn) (nat_le dn n) lane in (leb-true 1 dn l.0, leb-true dn n l.1)
 
 pub had_at : (hs : List NodeState) (dn : ℕ) → 1 ≤ dn → get_or hs (dn - 1) nothing_known ≡ node_state_in hs dn
@@ -428,9 +430,9 @@ module _ (x mid : Shadow) (m : Message) (lane : is_lane (length x.numbers) m.dn 
     stopped = c.stopped;
     well_formed = c.well_formed;
     datanodes_from = subst (λ k. 1 ≤ k) (sym (length-set mid.numbers (m.dn - 1) m.number)) c.datanodes_from;
-    datanodes_to = subst (λ k. k ≤ 256) (sym (length-set mid.numbers (m.dn - 1) m.number)) c.datanodes_to;
+    datanodes_to = subst (λ k. k ≤ max_datanodes) (sym (length-set mid.numbers (m.dn - 1) m.number)) c.datanodes_to;
     had_each = length-set mid.had (m.dn - 1) noted_last ∙ c.had_each ∙ sym (length-set mid.numbers (m.dn - 1) m.number);
-    shows = c.shows;
+    shows = subst (λ k. Shows k mid.namespace mid.table) (sym (length-set mid.numbers (m.dn - 1) m.number)) c.shows;
     unnamed = c.unnamed;
     placed = c.placed;
     by_block = c.by_block;

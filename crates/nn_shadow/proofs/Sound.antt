@@ -2,6 +2,7 @@
 use Rattle.std.proofs.Common.{◌≡◌, ℕ, ◌≤◌, ◌<◌, ◌^◌, false, [], length, None}
 use Rattle.std.specs.Prelude.{IfSome, IsTrue}
 use Rattle.nn_types.specs.declared.report.Message.{Message}
+use Rattle.nn_types.specs.Limits.{max_datanodes}
 use Rattle.nn_model.specs.Replay.{is_named}
 use Rattle.nn_model.specs.Stands.{AreByBlock}
 use Rattle.nn_model.specs.WellFormed.{Includes, IsWellFormed}
@@ -17,10 +18,10 @@ pub record IsSound (x : Shadow) : Type 0 where
   pub limit : x.last < 2 ^ 63
   pub well_formed : IsWellFormed x.namespace
   pub datanodes_from : 1 ≤ length x.numbers
-  pub datanodes_to : length x.numbers ≤ 256
+  pub datanodes_to : length x.numbers ≤ max_datanodes
   pub had_each : length x.had ≡ length x.numbers
   pub stopped : IfSome x.phase.stopped (IsStop x.namespace x.last)
-  pub shows : Shows x.namespace x.table
+  pub shows : Shows (length x.numbers) x.namespace x.table
   pub unnamed : (dn id : ℕ) → is_named x.namespace id ≡ false → replica_at x.table dn id ≡ None
   pub placed : (m : Message) → Includes x.held m → IsTrue (is_placed x.table m.dn m.block)
   pub by_block : AreByBlock x.held

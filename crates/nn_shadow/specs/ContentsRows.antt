@@ -1,5 +1,5 @@
 -- What holds of a standby between two calls, and for each clause standbys of which it does not hold.
-use Rattle.std.specs.Prelude.{◌≡◌, ℕ, ◌≤◌, ◌^◌, IsTrue, true, false, [], ◌∷◌, map, replicate, Option, Some, None, option_map, is_some, ◌==◌, codes, refl}
+use Rattle.std.specs.Prelude.{◌≡◌, ℕ, zero, suc, ◌<◌, ◌≤◌, ◌^◌, IsTrue, true, false, List, [], ◌∷◌, length, map, Option, Some, None, option_map, is_some, ◌==◌, codes, refl}
 use Rattle.std.proofs.Common.{subst, sym, ap, ◌∙◌, inl, inr, arith, rules, cond}
 use Rattle.std.proofs.lemmas.Option.{none-some}
 use Rattle.std.proofs.lemmas.Bool.{both_ways, cases_Bool, or_cases, and_parts, eqb-true}
@@ -24,7 +24,7 @@ use Rattle.nn_replicas.specs.Agreement.{Shows}
 use Rattle.nn_replicas.proofs.Lookups.{find_put, new_in_order, place_in_order, place_places}
 use Rattle.nn_shadow.specs.declared.fault.Stop.{Stop}
 use Rattle.nn_shadow.specs.declared.fault.StopCause.TheVariants.{Refused, Disorder}
-use Rattle.nn_shadow.specs.Contents.{Shadow, last_number_in, node_state_in, standby_of, IsStop, IsConsistent, KeepsSettings, Becomes}
+use Rattle.nn_shadow.specs.Contents.{Shadow, last_number_in, node_state_in, standby_of, IsStop, IsConsistent, IsGreatestSender, KeepsSettings, Becomes}
 use Rattle.nn_shadow.specs.Room.{is_waited_for, IsTight}
 
 -- ---- After the start of a segment, a message of DataNode 1 about b waits. No id is issued yet.
@@ -52,13 +52,13 @@ waiting = record {
   permille = 999;
 }
 
-has_datanodes : (dn id : ℕ) → IsTrue (is_placed at_b dn id) → (1 ≤ dn) × (dn ≤ 256)
+has_datanodes : (dn id : ℕ) → IsTrue (is_placed at_b dn id) → (1 ≤ dn) × (dn ≤ 2)
 has_datanodes dn id here = elim (or_cases (is_pair 1 b dn id) false (sym ((place_places (empty_table 1) 1 b).room dn id) ∙ here)) [
   | inl pair ↦ let first : dn ≡ 1 = eqb-true dn 1 (and_parts (dn == 1) (id == b) pair).0 in (omega (arith, first), omega (arith, first))
   | inr none ↦ absurd (both_ways _ refl none)
 ]
 
-root_is_shown : Shows root_alone at_b
+root_is_shown : Shows 2 root_alone at_b
 root_is_shown = record {
   in_order = place_in_order (empty_table 1) 1 b (new_in_order 1);
   rows = (place_places (empty_table 1) 1 b).rows;
@@ -124,8 +124,12 @@ there_is_no_root x = none-some Dir x.well_formed.root
 there_is_no_datanode : IsConsistent (record waiting { numbers = []; had = [] }) → ⊥
 there_is_no_datanode x = omega (arith, x.datanodes_from)
 
-there_are_257_datanodes : IsConsistent (record waiting { numbers = replicate 257 0 }) → ⊥
-there_are_257_datanodes x = let most : 257 ≤ 256 = x.datanodes_to in omega (arith, most)
+there_are_65536_datanodes : (ns : List ℕ) → length ns ≡ 65536 → IsConsistent (record waiting { numbers = ns }) → ⊥
+there_are_65536_datanodes ns all x = let most : length ns ≤ 65535 = x.datanodes_to in omega (arith, all, most)
+
+-- DataNode 1 has a place, and there is none
+it_has_another_datanode : Shows 0 root_alone at_b → ⊥
+it_has_another_datanode x = let first = x.datanodes 1 b refl in omega (arith, first.1)
 
 one_has_nothing_known : IsConsistent (record waiting { had = nothing_known ∷ [] }) → ⊥
 one_has_nothing_known x = let each : 1 ≡ 2 = x.had_each in omega (arith, each)
@@ -218,3 +222,32 @@ another_phase h = both_ways _ (ap (λ p. p.active) h.phase) refl
 
 other_settings : Becomes waiting (standby_of waiting) (record waiting { permille = 1000 }) → ⊥
 other_settings h = another_permille h.settings
+
+-- ---- The greatest DataNode that sent a message.
+
+-- DataNode 2 alone sent one
+abbrev of_two : List ℕ
+of_two = 0 ∷ 7 ∷ 0 ∷ []
+
+none_above_two : (d : ℕ) → 2 < d → last_number_in of_two d ≡ 0
+none_above_two zero above = refl
+none_above_two (suc zero) above = refl
+none_above_two (suc (suc zero)) above = absurd (omega (arith, above))
+none_above_two (suc (suc (suc zero))) above = refl
+none_above_two (suc (suc (suc (suc d)))) above = refl
+
+two_is_greatest : IsGreatestSender of_two 2
+two_is_greatest = record { sent = λ low. omega arith; none_above = none_above_two }
+
+one_is_not : IsGreatestSender of_two 1 → ⊥
+one_is_not g = let none : 7 ≡ 0 = g.none_above 2 (omega arith) in omega (arith, none)
+
+three_is_not : IsGreatestSender of_two 3 → ⊥
+three_is_not g = let sent : 1 ≤ 0 = g.sent (omega arith) in omega (arith, sent)
+
+none_is_greatest : IsGreatestSender [] 0
+none_is_greatest = record { sent = λ low. absurd (omega (arith, low)); none_above = λ d above. nothing d }
+  where
+    nothing : (d : ℕ) → last_number_in [] d ≡ 0
+    nothing zero = refl
+    nothing (suc d) = refl

@@ -35,7 +35,7 @@ pub record IsFilling (n : Namespace) (min : ℕ) (t : Replicas) (rows : List Blo
 
 -- the table has the rows of the namespace's blocks, and of no other block an entry; and no replicas and no orders
 pub record IsBlank (n : Namespace) (enough : ℕ) (t : Replicas) : Type 0 where
-  pub shows : Shows n t
+  pub shows : (most : ℕ) → Shows most n t
   pub entries : (id : ℕ) → has_entry t id ≡ true → has_row t id ≡ true
   pub replicas : (dn id : ℕ) → replica_at t dn id ≡ None
   pub orders : (dn id : ℕ) → has_order t dn id ≡ false

@@ -35,7 +35,7 @@ impl Intake {
         had: &mut Had,
         m: &Message,
     ) -> Result<Handed, AllocError>
-        requires shows { Shows namespace.now self.old.table }
+        requires shows { (most : ℕ) × Shows most namespace.now self.old.table }
         requires blocks { HasWellFormedBlocks namespace.now }
         requires number { 1 ≤ m.now.number }
         ensures ok { OnOk result (TakesIn namespace.now (added had.old.having m.now) self.old self.new) }
@@ -71,7 +71,7 @@ impl Intake {
         had: &mut Had,
         item: &Message,
     ) -> Result<Handed, AllocError>
-        requires shows { Shows namespace.now self.old.table }
+        requires shows { (most : ℕ) × Shows most namespace.now self.old.table }
         requires blocks { HasWellFormedBlocks namespace.now }
         requires number { 1 ≤ item.now.number }
         ensures ok { OnOk result (TakesIn namespace.now (item.now ∷ []) self.old self.new) }
@@ -96,7 +96,7 @@ impl Intake {
         namespace: &Namespace,
         item: &Message,
     ) -> Result<Handed, AllocError>
-        requires shows { Shows namespace.now self.old.table }
+        requires shows { (most : ℕ) × Shows most namespace.now self.old.table }
         requires blocks { HasWellFormedBlocks namespace.now }
         ensures ok { OnOk result (TakesIn namespace.now (item.now ∷ []) self.old self.new) }
         ensures handed { IfOk result (λ handed. handed ≡ handed_counts namespace.now self.old.held (item.now ∷ [])) }
@@ -192,7 +192,7 @@ fn place_or_process(
     table: &mut Replicas,
     item: &Message,
 ) -> Result<bool, AllocError>
-    requires shows { Shows namespace.now table.old }
+    requires shows { (most : ℕ) × Shows most namespace.now table.old }
     requires blocks { HasWellFormedBlocks namespace.now }
     ensures waits { IfOk result (λ waits. waits ≡ must_wait (is_due_in namespace.now) held.now item.now) }
     ensures ok { IfOk result (λ waits. table.new ≡ taken_unless waits held.now (pair_placed table.old item.now.dn item.now.block) item.now) }

@@ -87,7 +87,7 @@ impl Shadow {
             return Err(AllocError);
         };
         self.had[lane].note_message(&message);
-        self.numbers[lane] = message.number;
+        self.numbers.set(message.dn, message.number);
         Ok(handed)
     }
 }

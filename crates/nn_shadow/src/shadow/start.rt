@@ -13,6 +13,7 @@ use super::Shadow;
 use crate::fault::FromFault;
 use crate::had::Had;
 use crate::intake::Intake;
+use crate::last_numbers::LastNumbers;
 use crate::starting::blank_table;
 use nn_postponed::Postponed;
 use nn_tree::Namespace;
@@ -33,13 +34,13 @@ impl Shadow {
         requires { (1 ≤ datanodes) × (datanodes ≤ max_datanodes) }
         ensures fresh { IfOk result (λ s. standby_of s ≡ fresh namespace txid) }
         ensures stands { IfOk result (λ s. StandsBy namespace txid [] no_messages (standby_of s)) }
-        ensures rows { IfOk result (λ s. Shows namespace s.table) }
-        ensures counts { IfOk result (λ s. HasCounts namespace s.table) }
+        ensures rows { IfOk result (λ s. Shows datanodes namespace s.table) }
+        ensures counts { IfOk result (λ s. HasCounts datanodes namespace s.table) }
         ensures phase { IfOk result (λ s. s.phase ≡ record { stopped = None; active = false }) }
         ensures settings { IfOk result (λ s. (length s.numbers ≡ datanodes) × (s.table.min ≡ settings.min) × (s.permille ≡ settings.permille)) }
         ensures err { IfErr result (λ fault. fault.namespace ≡ namespace) }
     {
-        let Ok(numbers) = Vec::from_elem(alloc, 0u64, usize::from(datanodes)) else {
+        let Ok(numbers) = LastNumbers::new(alloc, datanodes) else {
             return Err(FromFault { namespace });
         };
         let Ok(had) = nothing_had(alloc, datanodes) else {

@@ -1,4 +1,4 @@
-use Rattle.std.proofs.Common.{◌≡◌, subst, ◌∙◌}
+use Rattle.std.proofs.Common.{◌≡◌, length, subst, ◌∙◌}
 use Rattle.nn_device.specs.Page.{PutsPiece}
 use Rattle.nn_device.proofs.Pages.{puts_both}
 use Rattle.nn_replicas.specs.SafeMode.{counts_of}
@@ -12,6 +12,7 @@ pub returns-clause-seen : goal.returns-clause-seen
 returns-clause-seen g c =
     let told : Summary =
     record {
+      datanodes = length c.args.shadow.now.numbers;
       txid = c.get.result;
       held = c.held_count.result;
       senders = sender_seen c.args.shadow.now;
@@ -22,6 +23,7 @@ returns-clause-seen g c =
     let directories = rw c.namespace-namespace.ensures at c.directories-directories.ensures in
     let same : told ≡ summary_seen c.args.shadow.now =
     λ i. record {
+      datanodes = length c.args.shadow.now.numbers;
       txid = (c.get.ensures.value ∙ c.last_txid.ensures.last) i;
       held = c.held_count.ensures i;
       senders = sender_seen c.args.shadow.now;
@@ -35,6 +37,6 @@ returns-clause-seen g c =
     subst (λ s. PutsPiece (summary_text s) c.args.page.now c.args.writer.now c.put_counts.new.page c.put_counts.new.writer) same put
 
 pub returns-clause-said : goal.returns-clause-said
-returns-clause-said g c lanes said =
-    subst (λ s. PutsPiece (summary_text s) c.args.page.now c.args.writer.now c.put_counts.new.page c.put_counts.new.writer) (summary_is c.args.shadow.now lanes c.recall_invariant.ensures said)
+returns-clause-said g c datanodes lanes more said =
+    subst (λ text. PutsPiece text c.args.page.now c.args.writer.now c.put_counts.new.page c.put_counts.new.writer) (summary_is c.args.shadow.now datanodes lanes c.recall_invariant.ensures more said)
     (returns-clause-seen g c)

@@ -13,7 +13,7 @@ pub returns-then-not-due-clause-waits : goal.returns-then-not-due-clause-waits
 returns-then-not-due-clause-waits c =
     let n = c.args.namespace.now in
     let m = c.args.item.now in
-    late_waits n c.args.table.now c.args.held.now m c.requires.shows
+    late_waits n c.args.table.now c.args.held.now m c.requires.shows.1
     (ap (λ o. is_due (status_by_row o (status_unheld n m.block)) m.stamp) (sym c.in-Ok-process_by_row.ensures.stamp) ∙ ap (λ s. is_due s m.stamp) (sym c.status_by_row-status.ensures) ∙ sym c.due.ensures ∙ c.if-not-due.true)
 
 pub process_without_row-requires : goal.process_without_row-requires
@@ -26,7 +26,7 @@ pub returns-clause-waits : goal.returns-clause-waits
 returns-clause-waits c =
     let n = c.args.namespace.now in
     let m = c.args.item.now in
-    due_goes n c.args.table.now c.args.held.now m c.requires.shows
+    due_goes n c.args.table.now c.args.held.now m c.requires.shows.1
     (ap (λ o. is_due (status_by_row o (status_unheld n m.block)) m.stamp) (sym c.in-Ok-process_by_row.ensures.stamp) ∙ ap (λ s. is_due s m.stamp) (sym c.status_by_row-status.ensures) ∙ sym c.due.ensures ∙ c.if-not-due.false)
     (sym c.holds.ensures ∙ c.if-holds.false)
 

@@ -1,16 +1,11 @@
 use Rattle.std.proofs.Common.{◌≡◌, sym, ap, subst, ◌∙◌}
 use Rattle.std.specs.Prelude.{flat_map}
 use Rattle.nn_device.specs.Page.{PutsAllBut}
-use Rattle.nn_replicas.specs.Agreement.{Shows}
 use Rattle.nn_tree.specs.Listing.{lent_names}
 use Rattle.nn_listing.specs.Kept.{unsafe_by, kept_lines, kept_after}
 use Rattle.nn_listing.specs.declared.safety.Kept.{Kept}
 use Rattle.nn_listing.proofs.Lives.{first_put, fewer_left}
 use Rattle.nn_listing.proofs.safety.Kept.put_blocks.Goals as goal
-
-pub put_block-requires : goal.put_block-requires
-put_block-requires g c =
-    record { shows = (c.requires.shows.0, subst (Shows c.requires.shows.0) (ap (λ (k : Kept). k.table.now) (sym c.rest.invariant.1)) c.requires.shows.1) }
 
 pub rest-preserved : goal.rest-preserved
 rest-preserved g c =

@@ -1,4 +1,4 @@
-use Rattle.std.proofs.Common.{[], map, replicate, sym, ap, subst, ◌∙◌}
+use Rattle.std.proofs.Common.{[], map, sym, subst}
 use Rattle.nn_model.specs.Lanes.{no_messages}
 use Rattle.nn_shadow.specs.Laws.{StandsBy}
 use Rattle.nn_shadow.specs.Notes.{node_state_of}
@@ -8,12 +8,12 @@ use Rattle.nn_replicas.proofs.Ties.{counts_agree}
 use Rattle.nn_shadow.proofs.shadow.Shadow.from.Goals as goal
 
 pub returns-clause-counts : goal.returns-clause-counts
-returns-clause-counts c = counts_agree c.args.namespace c.in-Ok-blank_table.table c.recall_invariant.ensures.well_formed.blocks c.in-Ok-blank_table.ensures.shows
+returns-clause-counts c = counts_agree c.args.datanodes c.args.namespace c.in-Ok-blank_table.table c.recall_invariant.ensures.well_formed.blocks (c.in-Ok-blank_table.ensures.shows c.args.datanodes)
 
 pub returns-clause-fresh : goal.returns-clause-fresh
 returns-clause-fresh c =
-    begins_fresh c.args.namespace c.args.txid c.args.settings.min c.args.datanodes c.new.result.items c.in-Ok-blank_table.table c.new-2.result c.in-Ok.numbers.items (map node_state_of c.in-Ok-nothing_had.had.items) c.new.ensures.items c.in-Ok-blank_table.ensures c.new-2.ensures
-    (c.in-Ok.ensures.items_if_clones_equal (λ y e. e) ∙ ap (λ n. replicate n 0) c.from.ensures) c.in-Ok-nothing_had.ensures
+    begins_fresh c.args.namespace c.args.txid c.args.settings.min c.args.datanodes c.new-2.result.items c.in-Ok-blank_table.table c.new-3.result c.in-Ok.numbers (map node_state_of c.in-Ok-nothing_had.had.items) c.new-2.ensures.items c.in-Ok-blank_table.ensures c.new-3.ensures
+    c.in-Ok.ensures.none c.in-Ok-nothing_had.ensures
 
 pub returns-clause-stands : goal.returns-clause-stands
 returns-clause-stands c =

@@ -1,6 +1,6 @@
 use Rattle.std.proofs.Math.Seq.{drop-append_seam}
 use Rattle.nn_shadow.specs.Room.{given_back_after}
-use Rattle.std.proofs.Common.{◌≡◌, ◌∷◌, [], ◌++◌, drop, None, refl, ap, subst, sym, ◌∙◌, inl, inr}
+use Rattle.std.proofs.Common.{◌≡◌, ◌∷◌, [], ◌++◌, drop, length, None, refl, ap, subst, sym, ◌∙◌, inl, inr}
 use Rattle.nn_types.specs.declared.event.Event.TheVariants.{Applied}
 use Rattle.nn_shadow.specs.contracts.shadow.Shadow.{the_view}
 use Rattle.nn_replicas.specs.Calls.{is_placed}
@@ -20,6 +20,9 @@ use Rattle.nn_shadow.proofs.Refusing.{fits_if, turn_serves}
 use Rattle.nn_shadow.specs.Touching.{Rises}
 use Rattle.nn_shadow.proofs.Searching.{retired_rises, written_is}
 use Rattle.nn_shadow.proofs.shadow.Shadow.make.Goals as goal
+
+pub change-requires-clause-shows : goal.change-requires-clause-shows
+change-requires-clause-shows c = (length c.self.inside.numbers, c.self.invariant.shows)
 
 -- an edit is made only while the standby serves
 pub change-requires-clause-tight : goal.change-requires-clause-tight

@@ -102,4 +102,3 @@ fn message(report: Report, number: u64) -> Message
         kind: report.kind,
     }
 }
-

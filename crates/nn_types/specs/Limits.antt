@@ -23,9 +23,12 @@ max_path = 8000
 abbrev pub max_replication : ℕ
 max_replication = 512
 
--- the number of a DataNode
+-- the number of a DataNode, and in a run that does not say how many there are
 abbrev pub max_datanodes : ℕ
-max_datanodes = 256
+max_datanodes = 65535
+
+abbrev pub default_datanodes : ℕ
+default_datanodes = 256
 
 -- the messages that a lane holds at a time
 abbrev pub max_capacity : ℕ

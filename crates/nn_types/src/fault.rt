@@ -146,7 +146,8 @@ fn of_input(number: u8) -> Option<&'static str>
         ),
         BAD_NUMBER => Some(
             "BadNumber: a number of the line is no whole number in its range. Write it in digits, from 0 to \
-             9223372036854775807; a txid is at least 1, dn is 1 to 256, and a profile is 1 or 2.",
+             9223372036854775807; a txid is at least 1, dn is 1 to what --datanodes gives (256 without it), and a \
+             profile is 1 or 2.",
         ),
         UNKNOWN_OP => Some(
             "UnknownOp: the op of the line is no operation that a standby knows. Turn a real log into lines with \

@@ -14,8 +14,10 @@ pub const MAX_PATH_LEN: usize = 8000;
 
 /// The greatest replication of a file. The least is 1.
 pub const MAX_REPLICATION: u16 = 512;
-/// The greatest number of a DataNode. The least is 1.
-pub const MAX_DATANODES: u16 = 256;
+/// The greatest number that a DataNode can have. The least is 1.
+pub const MAX_DATANODES: u16 = 65_535;
+/// The greatest number that a DataNode has in a run that does not say how many there are.
+pub const DEFAULT_DATANODES: u16 = 256;
 /// The messages that a lane holds at a time, at most.
 pub const MAX_CAPACITY: u16 = 1024;
 

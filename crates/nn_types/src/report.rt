@@ -40,7 +40,7 @@ impl Kind {
 /// A DataNode's report about one block, as a message line gives it.
 #[derive(Clone, Copy, Debug, PartialEq, Eq)]
 pub struct Report {
-    /// The DataNode, from 1 to `MAX_DATANODES`.
+    /// The DataNode, from 1 to as many as the run has: `MAX_DATANODES` at most.
     pub dn: u16,
     pub block: BlockId,
     pub stamp: GenerationStamp,
@@ -51,7 +51,7 @@ pub struct Report {
 /// A report as its lane carries it: with its number, counted from 1 for each DataNode.
 #[derive(Clone, Copy, Debug, PartialEq, Eq)]
 pub struct Message {
-    /// The DataNode, from 1 to `MAX_DATANODES`.
+    /// The DataNode, from 1 to as many as the run has: `MAX_DATANODES` at most.
     pub dn: u16,
     pub number: u64,
     pub block: BlockId,

@@ -21,13 +21,15 @@ use Rattle.nn_edits.specs.declared.line.Line.TheVariants as either
 use Rattle.nn_edits.specs.Fault.{number_of as fault_number}
 use Rattle.nn_edits.specs.Reading.{edit_of_line, either_of_line, object_in, value_of, either_in, tx_in, op_in, op_of, txid_in, whole_in, number_in, path_in, profile_in, edit_in, block_in, items_in, blocks_in, report_in, dn_in, kind_in, kind_of}
 
+-- Where nothing else is said, 256 DataNodes report.
+
 -- the number of a line's first fault, or 0
 abbrev fault : Result Line LineFault → ℕ
 fault (Ok _) = 0
 fault (Err first) = fault_number first
 
 abbrev faults : List (List ℕ) → List ℕ
-faults lines = map (λ line. fault (either_of_line line)) lines
+faults lines = map (λ line. fault (either_of_line 256 line)) lines
 
 abbrev is : Edit → Result Tx LineFault
 is edit = Ok (record { txid = 2; edit = edit })
@@ -105,7 +107,7 @@ unfolding edit_of_line object_in value_of tx_in op_in op_of txid_in whole_in num
 other_members = refl
 
 -- A line without `op` is a report.
-reports : map either_of_line (
+reports : map (either_of_line 256) (
     codes "{\"dn\":7,\"block\":5,\"gen\":6,\"len\":8,\"kind\":\"receiving\"}"
     ∷ codes "{\"dn\":1,\"block\":0,\"gen\":0,\"len\":0,\"kind\":\"received\"}"
     ∷ codes "{\"dn\":256,\"block\":5,\"gen\":6,\"len\":8,\"kind\":\"deleted\"}"
@@ -223,7 +225,23 @@ of_a_report : faults (
 unfolding either_of_line either_in report_in dn_in kind_in kind_of object_in value_of tx_in op_in op_of txid_in whole_in number_in path_in profile_in edit_in blocks_in items_in block_in is_utf8 chars encode value punctuate lex content word after_number number_of scan_numeral
 of_a_report = refl
 
+-- A DataNode is from 1 to the number that report. A greater one is a bad number, before any fault of a later key.
+numbers_of_datanodes : map (λ datanodes. fault (either_of_line datanodes (codes "{\"dn\":257,\"block\":9,\"gen\":1,\"len\":0,\"kind\":\"received\"}")))
+    (0 ∷ 1 ∷ 256 ∷ 257 ∷ 65535 ∷ []) ≡ 3 ∷ 3 ∷ 3 ∷ 0 ∷ 0 ∷ []
+unfolding either_of_line either_in report_in dn_in kind_in kind_of object_in value_of tx_in op_in op_of txid_in whole_in number_in path_in profile_in edit_in blocks_in items_in block_in is_utf8 chars encode value punctuate lex content word after_number number_of scan_numeral
+numbers_of_datanodes = refl
+
+of_65535_datanodes : map (λ line. fault (either_of_line 65535 line)) (
+    codes "{\"dn\":0,\"block\":9,\"gen\":1,\"len\":0,\"kind\":\"received\"}"
+    ∷ codes "{\"dn\":65535,\"block\":9,\"gen\":1,\"len\":0,\"kind\":\"received\"}"
+    ∷ codes "{\"dn\":65536,\"block\":9,\"gen\":1,\"len\":0,\"kind\":\"received\"}"
+    ∷ codes "{\"dn\":65537,\"kind\":\"lost\"}"
+    ∷ codes "{\"dn\":65535,\"block\":9,\"kind\":\"lost\"}" ∷ [])
+    ≡ 3 ∷ 0 ∷ 3 ∷ 3 ∷ 2 ∷ []
+unfolding either_of_line either_in report_in dn_in kind_in kind_of object_in value_of tx_in op_in op_of txid_in whole_in number_in path_in profile_in edit_in blocks_in items_in block_in is_utf8 chars encode value punctuate lex content word after_number number_of scan_numeral
+of_65535_datanodes = refl
+
 -- A line is UTF-8.
-no_text : fault (either_of_line (codes "{\"op\":\"OP_MKDIR\",\"zz\":\"" ++ 255 ∷ codes "\"}")) ≡ 1
+no_text : fault (either_of_line 256 (codes "{\"op\":\"OP_MKDIR\",\"zz\":\"" ++ 255 ∷ codes "\"}")) ≡ 1
 unfolding either_of_line either_in report_in dn_in kind_in kind_of object_in value_of tx_in op_in op_of txid_in whole_in number_in path_in profile_in edit_in blocks_in items_in block_in is_utf8 chars encode value punctuate lex content word after_number number_of scan_numeral
 no_text = refl

@@ -35,7 +35,6 @@ use Rattle.nn_types.specs.declared.tx.Tx.{Tx}
 use Rattle.nn_types.specs.Profile.{profile_of}
 use Rattle.nn_types.specs.declared.profile.Profile.{Profile}
 use Rattle.nn_types.specs.declared.profile.Profile.TheVariants.{One}
-use Rattle.nn_types.specs.Limits.{max_datanodes}
 use Rattle.nn_plain.specs.Keys.{first_named}
 
 -- ---- what is kept
@@ -241,8 +240,8 @@ number_from number = number >>= λ n. within (nat_lt n (2 ^ 63)) n
 unfoldable pub txid_from : Result ℕ LineFault → Result ℕ LineFault
 txid_from number = number >>= λ n. within (nat_le 1 n && nat_lt n (2 ^ 63)) n
 
-unfoldable pub dn_from : Result ℕ LineFault → Result ℕ LineFault
-dn_from number = number >>= λ n. within (nat_le 1 n && nat_le n max_datanodes) n
+unfoldable pub dn_from : ℕ → Result ℕ LineFault → Result ℕ LineFault
+dn_from datanodes number = number >>= λ n. within (nat_le 1 n && nat_le n datanodes) n
 
 unfoldable pub profile_from : Result ℕ LineFault → Result Profile LineFault
 profile_from number = if has_no_member number then Ok One else (number >>= λ n. ok_or (profile_of n) BadNumber)
@@ -314,9 +313,9 @@ tx_from p = do
   Ok (record { txid = txid; edit = edit })
 
 -- The report, its keys in the order in which they are checked.
-unfoldable pub report_from : Parts → Result Report LineFault
-report_from p = do
-  dn ← dn_from p.dn
+unfoldable pub report_from : ℕ → Parts → Result Report LineFault
+report_from datanodes p = do
+  dn ← dn_from datanodes p.dn
   block ← number_from p.block
   stamp ← number_from p.stamp
   len ← number_from p.len
@@ -324,9 +323,9 @@ report_from p = do
   Ok (record { dn = dn; block = block; stamp = stamp; len = len; kind = kind })
 
 -- With a member `op` it is a transaction, else a report.
-unfoldable pub either_from : Parts → Result Line LineFault
-either_from p = if has_no_member p.op then (do
-  report ← report_from p
+unfoldable pub either_from : ℕ → Parts → Result Line LineFault
+either_from datanodes p = if has_no_member p.op then (do
+  report ← report_from datanodes p
   Ok (either.Report report)) else (do
     tx ← tx_from p
     Ok (either.Edit tx))

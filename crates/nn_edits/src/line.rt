@@ -50,33 +50,43 @@ pub fn read_edit(alloc: Global, scratch: &mut Scratch, line: &[u8]) -> Result<Tx
 
 /// The report of a line, such as `{"block":1073741825,"dn":1,"gen":1001,"kind":"received","len":5}`.
 ///
-/// The keys may come in any order, and there may be others. Time and memory are of the order of
-/// the line's length.
-pub fn read_report(alloc: Global, scratch: &mut Scratch, line: &[u8]) -> Result<Report, LineFault>
+/// The keys may come in any order, and there may be others. A DataNode above `datanodes` is a bad number. Time and memory are of
+/// the order of the line's length.
+pub fn read_report(
+    alloc: Global,
+    scratch: &mut Scratch,
+    datanodes: u16,
+    line: &[u8],
+) -> Result<Report, LineFault>
     // What is read is what the line spells.
-    ensures found { IfOk result (IsReportLine line.now) }
+    ensures found { IfOk result (IsReportLine datanodes line.now) }
     // What the line spells is read.
-    ensures only { (report : ReportData) → IsReportLine line.now report → LineGives result (Ok report) }
+    ensures only { (report : ReportData) → IsReportLine datanodes line.now report → LineGives result (Ok report) }
     // The fault is the first one in the order of the keys.
-    ensures exact { LineGives result (report_of_line line.now) }
-    ensures lawful { IfOk result IsLawfulReport }
+    ensures exact { LineGives result (report_of_line datanodes line.now) }
+    ensures lawful { IfOk result (IsLawfulReport datanodes) }
 {
-    report_of_line(alloc, scratch, line)
+    report_of_line(alloc, scratch, datanodes, line)
 }
 
 /// The transaction or the report of a line: an object with a key `op` is taken as a transaction, whatever its
-/// value there, and any other object as a report.
-pub fn read_line(alloc: Global, scratch: &mut Scratch, line: &[u8]) -> Result<Line, LineFault>
+/// value there, and any other object as a report, whose DataNode is from 1 to `datanodes`.
+pub fn read_line(
+    alloc: Global,
+    scratch: &mut Scratch,
+    datanodes: u16,
+    line: &[u8],
+) -> Result<Line, LineFault>
     // What is read is what the line spells.
-    ensures found { IfOk result (IsLine line.now) }
+    ensures found { IfOk result (IsLine datanodes line.now) }
     // What the line spells is read.
-    ensures only { (read : LineData) → IsLine line.now read → LineGives result (Ok read) }
+    ensures only { (read : LineData) → IsLine datanodes line.now read → LineGives result (Ok read) }
     // The fault is the first one in the order of the keys.
-    ensures exact { LineGives result (either_of_line line.now) }
-    ensures lawful { IfOk result IsLawfulLine }
+    ensures exact { LineGives result (either_of_line datanodes line.now) }
+    ensures lawful { IfOk result (IsLawfulLine datanodes) }
 {
     let mut texts = KeptTexts::new(alloc);
-    read_line_into(alloc, scratch, &mut texts, line, 0)
+    read_line_into(alloc, scratch, datanodes, &mut texts, line, 0)
 }
 
 /// The same, with the texts of its paths in the room of texts that a caller keeps over its lines, and of a line whose first
@@ -85,17 +95,18 @@ pub fn read_line(alloc: Global, scratch: &mut Scratch, line: &[u8]) -> Result<Li
 pub fn read_line_into(
     alloc: Global,
     scratch: &mut Scratch,
+    datanodes: u16,
     texts: &mut KeptTexts,
     line: &[u8],
     printable: usize,
 ) -> Result<Line, LineFault>
     requires { IsPrintableTo printable line.now }
-    ensures found { IfOk result (IsLine line.now) }
-    ensures only { (read : LineData) → IsLine line.now read → LineGives result (Ok read) }
-    ensures exact { LineGives result (either_of_line line.now) }
-    ensures lawful { IfOk result IsLawfulLine }
+    ensures found { IfOk result (IsLine datanodes line.now) }
+    ensures only { (read : LineData) → IsLine datanodes line.now read → LineGives result (Ok read) }
+    ensures exact { LineGives result (either_of_line datanodes line.now) }
+    ensures lawful { IfOk result (IsLawfulLine datanodes) }
 {
-    either_of_line(alloc, scratch, texts, line, printable)
+    either_of_line(alloc, scratch, datanodes, texts, line, printable)
 }
 
 fn edit_of_line(alloc: Global, scratch: &mut Scratch, line: &[u8]) -> Result<Tx, LineFault>
@@ -107,39 +118,46 @@ fn edit_of_line(alloc: Global, scratch: &mut Scratch, line: &[u8]) -> Result<Tx,
     tx_in(alloc, &mut texts, &mut fields)
 }
 
-fn report_of_line(alloc: Global, scratch: &mut Scratch, line: &[u8]) -> Result<Report, LineFault>
-    ensures { LineGives result (report_of_line line.now) }
+fn report_of_line(
+    alloc: Global,
+    scratch: &mut Scratch,
+    datanodes: u16,
+    line: &[u8],
+) -> Result<Report, LineFault>
+    ensures { LineGives result (report_of_line datanodes line.now) }
 {
     let mut fields = Fields::none();
     fields_in(alloc, scratch, line, 0, &mut fields)?;
-    report_in(&fields)
+    report_in(datanodes, &fields)
 }
 
 fn either_of_line(
     alloc: Global,
     scratch: &mut Scratch,
+    datanodes: u16,
     texts: &mut KeptTexts,
     line: &[u8],
     printable: usize,
 ) -> Result<Line, LineFault>
     requires { IsPrintableTo printable line.now }
-    ensures { LineGives result (either_of_line line.now) }
+    ensures { LineGives result (either_of_line datanodes line.now) }
 {
     let mut fields = Fields::none();
     fields_in(alloc, scratch, line, printable, &mut fields)?;
-    either_in(alloc, texts, &mut fields)
+    either_in(alloc, datanodes, texts, &mut fields)
 }
 
 #[tactic(auto, unfolding(crate::specs::Parts::either_from))]
 fn either_in(
     alloc: Global,
+    datanodes: u16,
     texts: &mut KeptTexts,
     fields: &mut Fields<'_>,
 ) -> Result<Line, LineFault>
-    ensures { LineGives result (either_from (seen_fields fields.old)) }
+    ensures { LineGives result (either_from datanodes (seen_fields fields.old)) }
 {
     if fields.lacks_text(TextKey::Op) {
-        return Ok(Line::Report(report_in(fields)?));
+        return Ok(Line::Report(report_in(datanodes, fields)?));
     }
     Ok(Line::Edit(tx_in(alloc, texts, fields)?))
 }

@@ -9,7 +9,6 @@ use crate::fault::LineFault;
 use crate::fields::Fields;
 use crate::keys::{NumberKey, TextKey};
 use nn_plain::Plain;
-use nn_types::limits::MAX_DATANODES;
 use nn_types::{BlockId, GenerationStamp, Length, Path, Profile, Replication, Txid};
 use std::alloc::Global;
 
@@ -35,11 +34,11 @@ pub(crate) fn txid_in(number: Result<u64, LineFault>) -> Result<Txid, LineFault>
 }
 
 #[tactic(auto, unfolding(crate::specs::Parts::dn_from))]
-pub(crate) fn dn_in(number: Result<u64, LineFault>) -> Result<u16, LineFault>
-    ensures { result ≡ dn_from number }
+pub(crate) fn dn_in(datanodes: u16, number: Result<u64, LineFault>) -> Result<u16, LineFault>
+    ensures { result ≡ dn_from datanodes number }
 {
     let number = number?;
-    if number == 0 || number > u64::from(MAX_DATANODES) {
+    if number == 0 || number > u64::from(datanodes) {
         return Err(LineFault::BadNumber);
     }
     Ok(number as u16)

@@ -1,5 +1,5 @@
 -- What every scenario is: its messages are lanes of its DataNodes, and each edit is a transaction of its parts.
-use Rattle.std.proofs.Common.{◌≡◌, ℕ, ◌+◌, ◌≤◌, Bool, true, false, cond, List, [], ◌∷◌, ◌++◌, length, map, Result, Ok, Err, refl, sym, ap, subst, ◌∙◌, arith}
+use Rattle.std.proofs.Common.{◌≡◌, ℕ, ◌+◌, ◌≤◌, Bool, true, false, cond, List, [], ◌∷◌, ◌++◌, length, map, max, Result, Ok, Err, refl, sym, ap, subst, ◌∙◌, arith}
 use Rattle.std.proofs.Common.{append_assoc, append-nil}
 use Rattle.std.specs.Prelude.{◌==◌, flat_map}
 use Rattle.std.specs.List.{All}
@@ -27,33 +27,33 @@ use Rattle.nn_scenario.proofs.StepLemmas.{steps_in_turn, lanes_of_lines, steps_a
 
 -- ---- lines that were read
 
-abbrev IsLawfulRead : ScenarioLine → Type 0
-IsLawfulRead (edit line) = Unit {0}
-IsLawfulRead (report r) = IsLawfulReport r
+abbrev IsLawfulRead : ℕ → ScenarioLine → Type 0
+IsLawfulRead datanodes (edit line) = Unit {0}
+IsLawfulRead datanodes (report r) = IsLawfulReport datanodes r
 
-abbrev AreLawful : List ScenarioLine → Type 0
-AreLawful [] = Unit {0}
-AreLawful (line ∷ lines) = IsLawfulRead line × AreLawful lines
+abbrev AreLawful : ℕ → List ScenarioLine → Type 0
+AreLawful datanodes [] = Unit {0}
+AreLawful datanodes (line ∷ lines) = IsLawfulRead datanodes line × AreLawful datanodes lines
 
-lawful_read : (text : List ℕ) (line : Line) → either_of_line text ≡ Ok line → IsLawfulRead (line_as text line)
-lawful_read text (either.Edit tx) is = tt
-lawful_read text (either.Report r) is = lawful_line text (either.Report r) (either_line_ok text (either.Report r) is)
+lawful_read : (datanodes : ℕ) (text : List ℕ) (line : Line) → either_of_line datanodes text ≡ Ok line → IsLawfulRead datanodes (line_as text line)
+lawful_read datanodes text (either.Edit tx) is = tt
+lawful_read datanodes text (either.Report r) is = lawful_line datanodes text (either.Report r) (either_line_ok datanodes text (either.Report r) is)
 
-later_lawful : (line : ScenarioLine) (r : Result (List ScenarioLine) ScenarioFault) (lines : List ScenarioLine) → and_later line r ≡ Ok lines → IsLawfulRead line →
-    ((later : List ScenarioLine) → r ≡ Ok later → AreLawful later) → AreLawful lines
-later_lawful line (Ok later) lines is h rest = let same : line ∷ later ≡ lines = cc in subst AreLawful same (h, rest later refl)
-later_lawful line (Err e) lines is h rest = absurd (cc)
+later_lawful : (datanodes : ℕ) (line : ScenarioLine) (r : Result (List ScenarioLine) ScenarioFault) (lines : List ScenarioLine) → and_later line r ≡ Ok lines → IsLawfulRead datanodes line →
+    ((later : List ScenarioLine) → r ≡ Ok later → AreLawful datanodes later) → AreLawful datanodes lines
+later_lawful datanodes line (Ok later) lines is h rest = let same : line ∷ later ≡ lines = cc in subst (AreLawful datanodes) same (h, rest later refl)
+later_lawful datanodes line (Err e) lines is h rest = absurd (cc)
 
-lines_lawful : (n : ℕ) (texts : List (List ℕ)) (lines : List ScenarioLine) → lines_from n texts ≡ Ok lines → AreLawful lines
+lines_lawful : (datanodes n : ℕ) (texts : List (List ℕ)) (lines : List ScenarioLine) → lines_from datanodes n texts ≡ Ok lines → AreLawful datanodes lines
 unfolding lines_from
-lines_lawful n [] lines is = let same : [] ≡ lines = cc in subst AreLawful same tt
-lines_lawful n (text ∷ texts) lines is = at (is_blank text) (either_of_line text) refl is (lines_lawful (n + 1) texts)
+lines_lawful datanodes n [] lines is = let same : [] ≡ lines = cc in subst (AreLawful datanodes) same tt
+lines_lawful datanodes n (text ∷ texts) lines is = at (is_blank text) (either_of_line datanodes text) refl is (lines_lawful datanodes (n + 1) texts)
   where
-    at : (b : Bool) (o : Result Line LineFault) → either_of_line text ≡ o →
-        cond b (lines_from (n + 1) texts) (with_read n text o (lines_from (n + 1) texts)) ≡ Ok lines →
-        ((later : List ScenarioLine) → lines_from (n + 1) texts ≡ Ok later → AreLawful later) → AreLawful lines
+    at : (b : Bool) (o : Result Line LineFault) → either_of_line datanodes text ≡ o →
+        cond b (lines_from datanodes (n + 1) texts) (with_read n text o (lines_from datanodes (n + 1) texts)) ≡ Ok lines →
+        ((later : List ScenarioLine) → lines_from datanodes (n + 1) texts ≡ Ok later → AreLawful datanodes later) → AreLawful datanodes lines
     at true o was is later = later lines is
-    at false (Ok line) was is later = later_lawful (line_as text line) (lines_from (n + 1) texts) lines is (lawful_read text line was) later
+    at false (Ok line) was is later = later_lawful datanodes (line_as text line) (lines_from datanodes (n + 1) texts) lines is (lawful_read datanodes text line was) later
     at false (Err e) was is later = absurd (cc)
 
 -- ---- their steps
@@ -63,19 +63,20 @@ count_from [] = omega arith
 count_from (step.Edit ∷ steps) = count_from steps
 count_from (step.Message m ∷ steps) = omega (arith, count_from steps)
 
-count_to : (lanes : Lanes) (lines : List ScenarioLine) → AreLawful lines → datanode_count (steps_from lanes lines) ≤ 256
-count_to lanes [] h = omega arith
-count_to lanes (edit line ∷ lines) h = count_to lanes lines h.1
-count_to lanes (report r ∷ lines) h = omega (arith, h.0.dn_to, count_to (followed_by lanes (message_in_turn lanes r)) lines h.1)
+count_to : (datanodes : ℕ) (lanes : Lanes) (lines : List ScenarioLine) → AreLawful datanodes lines → datanode_count (steps_from lanes lines) ≤ max 1 datanodes
+count_to datanodes lanes [] h = omega arith
+count_to datanodes lanes (edit line ∷ lines) h = count_to datanodes lanes lines h.1
+count_to datanodes lanes (report r ∷ lines) h = omega (arith, h.0.dn_to, count_to datanodes (followed_by lanes (message_in_turn lanes r)) lines h.1)
 
-steps_within : (k : ℕ) (lanes : Lanes) (lines : List ScenarioLine) → AreLawful lines → datanode_count (steps_from lanes lines) ≤ k →
+steps_within : (datanodes k : ℕ) (lanes : Lanes) (lines : List ScenarioLine) → AreLawful datanodes lines → datanode_count (steps_from lanes lines) ≤ k →
     All (IsStepOf k) (steps_from lanes lines)
-steps_within k lanes [] h below = All-nil (IsStepOf k)
-steps_within k lanes (edit line ∷ lines) h below = All-cons (IsStepOf k) step.Edit (steps_from lanes lines) tt (steps_within k lanes lines h.1 below)
-steps_within k lanes (report r ∷ lines) h below =
+steps_within datanodes k lanes [] h below = All-nil (IsStepOf k)
+steps_within datanodes k lanes (edit line ∷ lines) h below =
+    All-cons (IsStepOf k) step.Edit (steps_from lanes lines) tt (steps_within datanodes k lanes lines h.1 below)
+steps_within datanodes k lanes (report r ∷ lines) h below =
     let m = message_in_turn lanes r in
     let more = followed_by lanes m in
-    All-cons (IsStepOf k) (step.Message m) (steps_from more lines) (h.0.dn_from, omega (arith, below)) (steps_within k more lines h.1 (omega (arith, below)))
+    All-cons (IsStepOf k) (step.Message m) (steps_from more lines) (h.0.dn_from, omega (arith, below)) (steps_within datanodes k more lines h.1 (omega (arith, below)))
 
 edits_of_steps : (lanes : Lanes) (lines : List ScenarioLine) → edit_count (steps_from lanes lines) ≡ length (edit_lines lines)
 edits_of_steps lanes [] = refl
@@ -111,32 +112,32 @@ txs_counted (line ∷ lines) = omega (arith, txs_counted lines)
 
 -- ---- scenarios
 
-lawful_lines : (lines : List ScenarioLine) → AreLawful lines → IsLawfulScenario (scenario_with (cut (edit_lines lines)) (steps_of lines))
-lawful_lines lines h = record {
+lawful_lines : (datanodes : ℕ) (lines : List ScenarioLine) → AreLawful datanodes lines → IsLawfulScenario datanodes (scenario_with (cut (edit_lines lines)) (steps_of lines))
+lawful_lines datanodes lines h = record {
   edits = edits_of_steps no_messages lines ∙ sym (txs_counted (edit_lines lines)) ∙ ap length (sym (cut_keeps no_lines (edit_lines lines)));
   in_turn = steps_in_turn no_messages lines;
   messages = steps_are_lanes lines;
-  within = steps_within (datanode_count (steps_of lines)) no_messages lines h (omega arith);
+  within = steps_within datanodes (datanode_count (steps_of lines)) no_messages lines h (omega arith);
   datanodes_from = count_from (steps_of lines);
-  datanodes_to = count_to no_messages lines h;
+  datanodes_to = count_to datanodes no_messages lines h;
 }
 
-pub has_messages : (text : List ℕ) (s : Scenario) → scenario_of text ≡ Ok s → HasMessagesOf text s
+pub has_messages : (datanodes : ℕ) (text : List ℕ) (s : Scenario) → scenario_of datanodes text ≡ Ok s → HasMessagesOf datanodes text s
 unfolding scenario_of
-has_messages text s is = at (scenario_lines text) refl is
+has_messages datanodes text s is = at (scenario_lines datanodes text) refl is
   where
-    at : (r : Result (List ScenarioLine) ScenarioFault) → scenario_lines text ≡ r → scenario_from r ≡ Ok s → HasMessagesOf text s
+    at : (r : Result (List ScenarioLine) ScenarioFault) → scenario_lines datanodes text ≡ r → scenario_from r ≡ Ok s → HasMessagesOf datanodes text s
     at (Ok lines) was is =
         let same : scenario_with (cut (edit_lines lines)) (steps_of lines) ≡ s = cc in
         (lines, was, λ dn. ap (λ (x : Scenario). lanes_of_steps x.steps dn) (sym same) ∙ lanes_of_lines lines dn)
     at (Err e) was is = absurd (cc)
 
-pub lawful_scenario : (text : List ℕ) (s : Scenario) → scenario_of text ≡ Ok s → IsLawfulScenario s
+pub lawful_scenario : (datanodes : ℕ) (text : List ℕ) (s : Scenario) → scenario_of datanodes text ≡ Ok s → IsLawfulScenario datanodes s
 unfolding scenario_of
-lawful_scenario text s is = at (scenario_lines text) refl is
+lawful_scenario datanodes text s is = at (scenario_lines datanodes text) refl is
   where
-    at : (r : Result (List ScenarioLine) ScenarioFault) → scenario_lines text ≡ r → scenario_from r ≡ Ok s → IsLawfulScenario s
+    at : (r : Result (List ScenarioLine) ScenarioFault) → scenario_lines datanodes text ≡ r → scenario_from r ≡ Ok s → IsLawfulScenario datanodes s
     at (Ok lines) was is =
         let same : scenario_with (cut (edit_lines lines)) (steps_of lines) ≡ s = cc in
-        subst IsLawfulScenario same (lawful_lines lines (lines_lawful 1 _ lines was))
+        subst (IsLawfulScenario datanodes) same (lawful_lines datanodes lines (lines_lawful datanodes 1 _ lines was))
     at (Err e) was is = absurd (cc)

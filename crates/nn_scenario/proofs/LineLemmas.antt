@@ -25,11 +25,11 @@ use Rattle.nn_scenario.specs.declared.steps.Step.TheVariants as step
 use Rattle.nn_scenario.proofs.StepLemmas.{lanes_after_edit, lanes_after_message}
 
 -- a line that is an edit where both sorts stand together is that edit
-pub edit_alone : (line : List ℕ) (tx : Tx) → either_of_line line ≡ Ok (either.Edit tx) → edit_of_line line ≡ Ok tx
-edit_alone line tx is = edit_line_has line tx (either_line_ok line (either.Edit tx) is)
+pub edit_alone : (datanodes : ℕ) (line : List ℕ) (tx : Tx) → either_of_line datanodes line ≡ Ok (either.Edit tx) → edit_of_line line ≡ Ok tx
+edit_alone datanodes line tx is = edit_line_has line tx (either_line_ok datanodes line (either.Edit tx) is)
 
-pub edit_from_one : (line : List ℕ) (tx : Tx) → either_of_line line ≡ Ok (either.Edit tx) → 1 ≤ tx.txid
-edit_from_one line tx is = (either_line_ok line (either.Edit tx) is).2.from_one
+pub edit_from_one : (datanodes : ℕ) (line : List ℕ) (tx : Tx) → either_of_line datanodes line ≡ Ok (either.Edit tx) → 1 ≤ tx.txid
+edit_from_one datanodes line tx is = (either_line_ok datanodes line (either.Edit tx) is).2.from_one
 
 -- ---- what was read, and then the lines that are left
 
@@ -66,33 +66,33 @@ one_taken : (x : Reading) (line : ScenarioLine) (r : Result (List ScenarioLine) 
 one_taken x line (Ok lines) = ap Ok (taken x line lines)
 one_taken x line (Err e) = refl
 
-pub turn : (n : ℕ) (text : List ℕ) (texts : List (List ℕ)) (x next : Reading) → IsFollowed text x next
-    → follow x (lines_from n (text ∷ texts)) ≡ follow next (lines_from (n + 1) texts)
+pub turn : (datanodes n : ℕ) (text : List ℕ) (texts : List (List ℕ)) (x next : Reading) → IsFollowed datanodes text x next
+    → follow x (lines_from datanodes n (text ∷ texts)) ≡ follow next (lines_from datanodes (n + 1) texts)
 unfolding lines_from
-turn n text texts x next h = at (is_blank text) h
+turn datanodes n text texts x next h = at (is_blank text) h
   where
-    at : (b : Bool) → MatchBool b (next ≡ x) ((line : Line) × (either_of_line text ≡ Ok line) × (next ≡ followed_by_line x (line_as text line)))
-        → follow x (cond b (lines_from (n + 1) texts) (with_read n text (either_of_line text) (lines_from (n + 1) texts)))
-        ≡ follow next (lines_from (n + 1) texts)
-    at true h = ap (λ y. follow y (lines_from (n + 1) texts)) (sym h)
+    at : (b : Bool) → MatchBool b (next ≡ x) ((line : Line) × (either_of_line datanodes text ≡ Ok line) × (next ≡ followed_by_line x (line_as text line)))
+        → follow x (cond b (lines_from datanodes (n + 1) texts) (with_read n text (either_of_line datanodes text) (lines_from datanodes (n + 1) texts)))
+        ≡ follow next (lines_from datanodes (n + 1) texts)
+    at true h = ap (λ y. follow y (lines_from datanodes (n + 1) texts)) (sym h)
     at false h =
-        ap (λ r. follow x (with_read n text r (lines_from (n + 1) texts))) h.1
-        ∙ one_taken x (line_as text h.0) (lines_from (n + 1) texts)
-        ∙ ap (λ y. follow y (lines_from (n + 1) texts)) (sym h.2)
+        ap (λ r. follow x (with_read n text r (lines_from datanodes (n + 1) texts))) h.1
+        ∙ one_taken x (line_as text h.0) (lines_from datanodes (n + 1) texts)
+        ∙ ap (λ y. follow y (lines_from datanodes (n + 1) texts)) (sym h.2)
 
 -- a line that was refused
-pub refused : (n : ℕ) (text : List ℕ) (texts : List (List ℕ)) (d : LineFault) (x : Reading) → is_blank text ≡ false → either_of_line text ≡ Err d
-    → follow x (lines_from n (text ∷ texts)) ≡ Err (record { fault = d; line = n })
+pub refused : (datanodes n : ℕ) (text : List ℕ) (texts : List (List ℕ)) (d : LineFault) (x : Reading) → is_blank text ≡ false → either_of_line datanodes text ≡ Err d
+    → follow x (lines_from datanodes n (text ∷ texts)) ≡ Err (record { fault = d; line = n })
 unfolding lines_from
-refused n text texts d x e h = rw (e, h) refl
+refused datanodes n text texts d x e h = rw (e, h) refl
 
-pub no_more : (n : ℕ) (x : Reading) → follow x (lines_from n []) ≡ Ok (scenario_with (x.parts ++ last_part x.in_hand) x.steps)
+pub no_more : (datanodes n : ℕ) (x : Reading) → follow x (lines_from datanodes n []) ≡ Ok (scenario_with (x.parts ++ last_part x.in_hand) x.steps)
 unfolding lines_from parts_from
-no_more n x = ap (λ steps. Ok (scenario_with (x.parts ++ last_part x.in_hand) steps)) (append-nil x.steps)
+no_more datanodes n x = ap (λ steps. Ok (scenario_with (x.parts ++ last_part x.in_hand) steps)) (append-nil x.steps)
 
-pub whole_input : (text : List ℕ) → follow nothing_read (lines_from 1 (pieces text)) ≡ scenario_of text
+pub whole_input : (datanodes : ℕ) (text : List ℕ) → follow nothing_read (lines_from datanodes 1 (pieces text)) ≡ scenario_of datanodes text
 unfolding scenario_of
-whole_input text = same (lines_from 1 (pieces text))
+whole_input datanodes text = same (lines_from datanodes 1 (pieces text))
   where
     same : (r : Result (List ScenarioLine) ScenarioFault) → follow nothing_read r ≡ scenario_from r
     same (Ok lines) = refl

@@ -45,52 +45,55 @@ cut_there rest end is less there =
 
 -- ---- So many lines were read.
 
--- the scenario of a text is what was read, and the lines of these bytes
-abbrev pub GoesOn : List ℕ → ℕ → Reading → List ℕ → Type 0
-GoesOn text n x rest = scenario_of text ≡ follow x (lines_from (n + 1) (pieces rest))
+-- the scenario of a text, where so many DataNodes report, is what was read, and the lines of these bytes
+abbrev pub GoesOn : ℕ → List ℕ → ℕ → Reading → List ℕ → Type 0
+GoesOn datanodes text n x rest = scenario_of datanodes text ≡ follow x (lines_from datanodes (n + 1) (pieces rest))
 
-pub none_read : (text : List ℕ) (n : ℕ) (x : Reading) → n ≡ 0 → x ≡ nothing_read → GoesOn text n x text
-none_read text n x none new = sym (whole_input text) ∙ ap (λ k. follow nothing_read (lines_from (k + 1) (pieces text))) (sym none) ∙ ap (λ y. follow y (lines_from (n + 1) (pieces text))) (sym new)
+pub none_read : (datanodes : ℕ) (text : List ℕ) (n : ℕ) (x : Reading) → n ≡ 0 → x ≡ nothing_read → GoesOn datanodes text n x text
+none_read datanodes text n x none new =
+    sym (whole_input datanodes text)
+    ∙ ap (λ k. follow nothing_read (lines_from datanodes (k + 1) (pieces text))) (sym none)
+    ∙ ap (λ y. follow y (lines_from datanodes (n + 1) (pieces text))) (sym new)
 
 -- the text of a line is all of it
 pub line_text : (line : List ℕ) (blank : Bool) → blank ≡ is_blank line → IsLineText line line blank
 line_text line blank told = record { is = inl refl; told = told }
 
-followed : (line : List ℕ) (x y : Reading) → Hands (λ (_ : Reading) x reading. reading ≡ x) line x y → IsFollowed line x y
-followed line x y hands = let next = hands x x refl in subst (IsFollowed line x) (sym next.1) next.2
+followed : (datanodes : ℕ) (line : List ℕ) (x y : Reading) → Hands datanodes (λ (_ : Reading) x reading. reading ≡ x) line x y → IsFollowed datanodes line x y
+followed datanodes line x y hands = let next = hands x x refl in subst (IsFollowed datanodes line x) (sym next.1) next.2
 
-module _ (text rest : List ℕ) (n m : ℕ) (x : Reading) (end : ℕ) (is : end ≡ position_or_len ends rest) (next : m ≡ n + 1) (on : GoesOn text n x rest) where
+module _ (datanodes : ℕ) (text rest : List ℕ) (n m : ℕ) (x : Reading) (end : ℕ) (is : end ≡ position_or_len ends rest) (next : m ≡ n + 1) (on : GoesOn datanodes text n x rest) where
   -- one more
-  pub one_read : (y : Reading) → end < length rest → get_or rest end 0 ≡ line_feed → Hands (λ (_ : Reading) x reading. reading ≡ x) (take end rest) x y → GoesOn text m y (drop (end + 1) rest)
+  pub one_read : (y : Reading) → end < length rest → get_or rest end 0 ≡ line_feed → Hands datanodes (λ (_ : Reading) x reading. reading ≡ x) (take end rest) x y → GoesOn datanodes text m y (drop (end + 1) rest)
   one_read y less there hands =
-      on ∙ ap (λ ps. follow x (lines_from (n + 1) ps)) (cut_there rest end is less there)
-      ∙ turn (n + 1) (take end rest) (pieces (drop (end + 1) rest)) x y (followed (take end rest) x y hands)
-      ∙ ap (λ k. follow y (lines_from (k + 1) (pieces (drop (end + 1) rest)))) (sym next)
+      on ∙ ap (λ ps. follow x (lines_from datanodes (n + 1) ps)) (cut_there rest end is less there)
+      ∙ turn datanodes (n + 1) (take end rest) (pieces (drop (end + 1) rest)) x y (followed datanodes (take end rest) x y hands)
+      ∙ ap (λ k. follow y (lines_from datanodes (k + 1) (pieces (drop (end + 1) rest)))) (sym next)
 
   -- the last one
-  pub last_one_read : (y : Reading) → end ≡ length rest → Hands (λ (_ : Reading) x reading. reading ≡ x) (take end rest) x y → IsReadBy (λ (_ : Reading) x reading. reading ≡ x) y text (Ok y)
+  pub last_one_read : (y : Reading) → end ≡ length rest → Hands datanodes (λ (_ : Reading) x reading. reading ≡ x) (take end rest) x y → IsReadBy datanodes (λ (_ : Reading) x reading. reading ≡ x) y text (Ok y)
   last_one_read y all hands =
       let line : take end rest ≡ rest = take_all end rest (omega (arith, all)) in (
         y,
         refl,
-        on ∙ ap (λ ps. follow x (lines_from (n + 1) ps)) (all_piece rest end is all)
-            ∙ turn (n + 1) rest [] x y (subst (λ l. IsFollowed l x y) line (followed (take end rest) x y hands)) ∙ no_more (n + 1 + 1) y,
+        on ∙ ap (λ ps. follow x (lines_from datanodes (n + 1) ps)) (all_piece rest end is all)
+            ∙ turn datanodes (n + 1) rest [] x y (subst (λ l. IsFollowed datanodes l x y) line (followed datanodes (take end rest) x y hands)) ∙ no_more datanodes (n + 1 + 1) y,
       )
 
   -- it is refused
-  pub one_not_read : (bad : ScenarioFault) → IsRefusedAs (take end rest) m bad → bad.fault ≢ OutOfMemory → scenario_of text ≡ Err bad
+  pub one_not_read : (bad : ScenarioFault) → IsRefusedAs datanodes (take end rest) m bad → bad.fault ≢ OutOfMemory → scenario_of datanodes text ≡ Err bad
   one_not_read bad why other =
       let first = first_piece rest in
-      on ∙ ap (λ ps. follow x (lines_from (n + 1) ps)) (first.1 ∙ ap (λ k. take k rest ∷ first.0) (sym is))
-      ∙ refused (n + 1) (take end rest) first.0 bad.fault x why.said (why.fault other)
+      on ∙ ap (λ ps. follow x (lines_from datanodes (n + 1) ps)) (first.1 ∙ ap (λ k. take k rest ∷ first.0) (sym is))
+      ∙ refused datanodes (n + 1) (take end rest) first.0 bad.fault x why.said (why.fault other)
       ∙ ap (λ k. Err (record { fault = bad.fault; line = k })) (sym next ∙ sym why.number)
 
 -- ---- All was read.
 
-pub read_as : (first : Reading) (text : List ℕ) (x : Reading) (r : Result Read ScenarioFault) → IsReadBy (λ _ y reading. reading ≡ y) first text (Ok x)
-    → IfOk r (λ s. scenario_of_read s ≡ scenario_with (x.parts ++ last_part x.in_hand) x.steps) → IfErr r (λ e. e.fault ≡ OutOfMemory) → IsScenarioOf text r
-read_as first text x (Ok s) read is none =
-    let same : scenario_of text ≡ Ok (scenario_of_read s) =
+pub read_as : (datanodes : ℕ) (first : Reading) (text : List ℕ) (x : Reading) (r : Result Read ScenarioFault) → IsReadBy datanodes (λ _ y reading. reading ≡ y) first text (Ok x)
+    → IfOk r (λ s. scenario_of_read s ≡ scenario_with (x.parts ++ last_part x.in_hand) x.steps) → IfErr r (λ e. e.fault ≡ OutOfMemory) → IsScenarioOf datanodes text r
+read_as datanodes first text x (Ok s) read is none =
+    let same : scenario_of datanodes text ≡ Ok (scenario_of_read s) =
     read.2 ∙ ap (λ (y : Reading). Ok (scenario_with (y.parts ++ last_part y.in_hand) y.steps)) (sym read.1) ∙ ap Ok (sym is) in
-    record { ok = same; messages = has_messages text (scenario_of_read s) same; lawful = lawful_scenario text (scenario_of_read s) same; bad = tt }
-read_as first text x (Err e) read is none = record { ok = tt; messages = tt; lawful = tt; bad = λ other. absurd (other none) }
+    record { ok = same; messages = has_messages datanodes text (scenario_of_read s) same; lawful = lawful_scenario datanodes text (scenario_of_read s) same; bad = tt }
+read_as datanodes first text x (Err e) read is none = record { ok = tt; messages = tt; lawful = tt; bad = λ other. absurd (other none) }

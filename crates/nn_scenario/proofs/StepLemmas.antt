@@ -8,7 +8,7 @@ use Rattle.nn_types.specs.declared.report.Message.{Message}
 use Rattle.nn_types.specs.declared.report.Report.{Report}
 use Rattle.nn_model.specs.Lanes.{Lanes, no_messages, followed_by, AreNumbered, AreNumberedLanes}
 use Rattle.nn_scenario.specs.Scenario.{ScenarioLine, edit, report, numbered, messages_of, steps_from, steps_of}
-use Rattle.nn_scenario.specs.Steps.{message, message_in_turn, lanes_after, lanes_of_steps, AreNextMessages, datanode_count, with_report, IsCounted}
+use Rattle.nn_scenario.specs.Steps.{message, message_in_turn, lanes_after, lanes_of_steps, AreNextMessages, datanode_count, with_report, sent_by, SameSent, OneMoreSent, IsCounted}
 use Rattle.nn_scenario.specs.declared.steps.Step.{Step}
 use Rattle.nn_scenario.specs.declared.steps.Step.TheVariants as step
 
@@ -57,58 +57,60 @@ lane_length lanes (step.Message m ∷ steps) dn =
 
 -- ---- what was counted
 
-pub nothing_counted : (sent : List ℕ) → sent ≡ replicate 257 0 → IsCounted [] sent 1
-nothing_counted sent is = record {
-  places = ap length is ∙ length-replicate {A = ℕ} 257 0;
-  each = λ dn below. ap (λ ns. get_or ns dn 0) is ∙ get_or-replicate {A = ℕ} 257 dn 0 0 below;
-  greatest = refl;
+pub nothing_counted : (steps : List Step) (sent : List ℕ) → steps ≡ [] → sent ≡ [] → IsCounted steps sent 1
+nothing_counted steps sent none empty = record {
+  each = λ dn. ap (sent_by dn) empty ∙ ap (λ (xs : List Step). length (lanes_of_steps xs dn)) (sym none);
+  greatest = ap datanode_count (sym none);
 }
 
-pub counted_edit : (steps : List Step) (sent : List ℕ) (lanes : ℕ) → IsCounted steps sent lanes → IsCounted (steps ++ step.Edit ∷ []) sent lanes
-counted_edit steps sent lanes h = record {
-  places = h.places;
-  each = λ dn below. h.each dn below ∙ ap (λ (ls : Lanes). length (ls dn)) (sym (lanes_after_edit no_messages steps));
+pub counted_edit : (steps : List Step) (sent : List ℕ) (greatest : ℕ) → IsCounted steps sent greatest → IsCounted (steps ++ step.Edit ∷ []) sent greatest
+counted_edit steps sent greatest h = record {
+  each = λ dn. h.each dn ∙ ap (λ (ls : Lanes). length (ls dn)) (sym (lanes_after_edit no_messages steps));
   greatest = h.greatest ∙ sym (count_after_edit steps);
 }
 
-other_lane : (lanes : Lanes) (m : Message) (dn : ℕ) → dn ≢ m.dn → followed_by lanes m dn ≡ lanes dn
-other_lane lanes m dn apart = elim (cases_Bool (dn == m.dn)) [
-  | inl same ↦ absurd (apart (eqb-true _ _ same))
-  | inr other ↦ ap (λ t. cond t (lanes dn ++ m ∷ []) (lanes dn)) other
-]
+-- where each DataNode sent as many, the counts are as good
+pub counted_same : (steps : List Step) (sent room : List ℕ) (greatest : ℕ) → SameSent sent room → IsCounted steps sent greatest → IsCounted steps room greatest
+counted_same steps sent room greatest same h = record { each = λ dn. same dn ∙ h.each dn; greatest = h.greatest }
 
-pub counted_report : (steps : List Step) (sent : List ℕ) (lanes : ℕ) (r : Report) → r.dn ≤ 256 → IsCounted steps sent lanes →
-    IsCounted (with_report steps r) (set sent r.dn (get_or sent r.dn 0 + 1)) (max lanes r.dn)
-counted_report steps sent lanes r within h = record {
-  places = length-set sent r.dn (get_or sent r.dn 0 + 1) ∙ h.places;
-  each = λ dn below. each dn below ∙ ap (λ (ls : Lanes). length (ls dn)) (sym (lanes_after_message no_messages steps m));
-  greatest = grows ∙ sym (count_after_message steps m);
+-- a lane is longer by one where its DataNode sent the message
+one_longer : (lanes : Lanes) (m : Message) (dn : ℕ) → length (followed_by lanes m dn) ≡ length (lanes dn) + cond (m.dn == dn) 1 0
+one_longer lanes m dn = at (dn == m.dn) (m.dn == dn) (turned dn m.dn)
+  where
+    turned : (j k : ℕ) → (j == k) ≡ (k == j)
+    turned j k = grind arith
+
+    at : (s t : Bool) → s ≡ t → length (cond s (lanes dn ++ m ∷ []) (lanes dn)) ≡ length (lanes dn) + cond t 1 0
+    at true true e = length-append (lanes dn) (m ∷ [])
+    at false false e = omega arith
+    at true false e = absurd (cc)
+    at false true e = absurd (cc)
+
+-- a DataNode sent no more than there are steps
+pub few_sent : (steps : List Step) (sent : List ℕ) (greatest dn : ℕ) → IsCounted steps sent greatest → sent_by dn sent ≤ length steps
+few_sent steps sent greatest dn h = omega (arith, h.each dn, lane_length no_messages steps dn)
+
+-- the message is the next one of its DataNode
+pub next_counted : (steps : List Step) (sent : List ℕ) (greatest : ℕ) (r : Report) (number : ℕ) → IsCounted steps sent greatest → number ≡ sent_by r.dn sent
+    → message r (number + 1) ≡ message_in_turn (lanes_of_steps steps) r
+next_counted steps sent greatest r number h is = ap (λ n. message r (n + 1)) (is ∙ h.each r.dn)
+
+pub counted_report : (steps : List Step) (sent new : List ℕ) (old greatest : ℕ) (r : Report) → IsCounted steps sent old → OneMoreSent r.dn sent new → greatest ≡ max old r.dn
+    → IsCounted (with_report steps r) new greatest
+counted_report steps sent new old greatest r h more grown = record {
+  each = λ dn.
+      more dn
+      ∙ ap (λ n. n + cond (r.dn == dn) 1 0) (h.each dn)
+      ∙ sym (one_longer (lanes_of_steps steps) m dn)
+      ∙ ap (λ (ls : Lanes). length (ls dn)) (sym (lanes_after_message no_messages steps m));
+  greatest = higher ∙ sym (count_after_message steps m);
 }
   where
     m : Message
     m = message_in_turn (lanes_of_steps steps) r
 
-    grows : max lanes r.dn ≡ max r.dn (datanode_count steps)
-    grows = omega (arith, h.greatest)
-
-    each : (dn : ℕ) → dn < 257 → get_or (set sent r.dn (get_or sent r.dn 0 + 1)) dn 0 ≡ length (followed_by (lanes_of_steps steps) m dn)
-    each dn below = elim (cases_Bool (dn == r.dn)) [
-      | inl same ↦
-          let is : dn ≡ r.dn = eqb-true _ _ same in
-          let place : r.dn < length sent = omega (arith, h.places) in
-          let before = h.each dn below in
-          let here : get_or sent r.dn 0 ≡ get_or sent dn 0 = ap (λ k. get_or sent k 0) (sym is) in
-          let new : length (followed_by (lanes_of_steps steps) m dn) ≡ length (lanes_of_steps steps dn) + 1 =
-          ap length (own_lane (lanes_of_steps steps) m dn is) ∙ length-append (lanes_of_steps steps dn) (m ∷ []) in
-          ap (λ k. get_or (set sent r.dn (get_or sent r.dn 0 + 1)) k 0) is
-          ∙ get_or-set_same sent r.dn (get_or sent r.dn 0 + 1) 0 place
-          ∙ omega (arith, before, here, new)
-      | inr other ↦
-          let apart : dn ≢ r.dn = λ is. both_ways _ other (eq-eqb _ _ is) in
-          get_or-set_other sent r.dn dn (get_or sent r.dn 0 + 1) 0 apart
-          ∙ h.each dn below
-          ∙ ap length (sym (other_lane (lanes_of_steps steps) m dn apart))
-    ]
+    higher : greatest ≡ max r.dn (datanode_count steps)
+    higher = omega (arith, grown, h.greatest)
 
 -- ---- the messages of lines
 
@@ -176,33 +178,3 @@ pub in_turn_after : (lanes : Lanes) (some more : List Step) → AreNextMessages 
 in_turn_after lanes [] more h = h
 in_turn_after lanes (step.Edit ∷ some) more h = in_turn_after lanes some more h
 in_turn_after lanes (step.Message m ∷ some) more h = in_turn_after (followed_by lanes m) some more h.1
-
--- a DataNode sent no more than there are steps
-pub few_sent : (steps : List Step) (sent : List ℕ) (lanes dn : ℕ) → dn ≤ 256 → IsCounted steps sent lanes → get_or sent dn 0 ≤ length steps
-few_sent steps sent lanes dn within h = omega (arith, h.each dn (omega (arith, within)), lane_length no_messages steps dn)
-
--- what was read at a DataNode's place is how many messages it sent
-pub sent_read : (steps : List Step) (sent : List ℕ) (lanes dn place x : ℕ) → dn ≤ 256 → IsCounted steps sent lanes → place ≡ dn → x ≡ get_or sent place x →
-    x ≡ get_or sent dn 0
-sent_read steps sent lanes dn place x within h is read =
-    let inside : dn < length sent = omega (arith, h.places) in
-    read ∙ ap (λ k. get_or sent k x) is ∙ get_or_default sent dn x 0 inside
-
-pub number_fits : (steps : List Step) (sent : List ℕ) (lanes dn place x : ℕ) → dn ≤ 256 → IsCounted steps sent lanes → place ≡ dn →
-    x ≡ get_or sent place x → x ≤ length steps
-number_fits steps sent lanes dn place x within h is read =
-    omega (arith, sent_read steps sent lanes dn place x within h is read, few_sent steps sent lanes dn within h)
-
--- the message is the next one of its DataNode
-pub next_counted : (steps : List Step) (sent : List ℕ) (lanes : ℕ) (r : Report) (place x : ℕ) → r.dn ≤ 256 → IsCounted steps sent lanes → place ≡ r.dn →
-    x ≡ get_or sent place x → message r (x + 1) ≡ message_in_turn (lanes_of_steps steps) r
-next_counted steps sent lanes r place x within h is read =
-    ap (λ n. message r (n + 1)) (sent_read steps sent lanes r.dn place x within h is read ∙ h.each r.dn (omega (arith, within)))
-
-pub counted_next : (steps : List Step) (sent : List ℕ) (lanes : ℕ) (r : Report) (place x greatest : ℕ) → r.dn ≤ 256 → IsCounted steps sent lanes →
-    place ≡ r.dn → x ≡ get_or sent place x → greatest ≡ max lanes r.dn → IsCounted (with_report steps r) (set sent place (x + 1)) greatest
-counted_next steps sent lanes r place x greatest within h is read grown =
-    subst (λ k. IsCounted (with_report steps r) (set sent place (x + 1)) k) (sym grown)
-    (subst (λ k. IsCounted (with_report steps r) (set sent k (x + 1)) (max lanes r.dn)) (sym is)
-    (subst (λ n. IsCounted (with_report steps r) (set sent r.dn (n + 1)) (max lanes r.dn)) (sym (sent_read steps sent lanes r.dn place x within h is read))
-    (counted_report steps sent lanes r within h)))

@@ -36,29 +36,30 @@ sink_unless (Some bad) s = Err bad
 
 -- ---- For private clauses.
 
--- the scenario of these lines and of others behind them is what was read, and the others
-abbrev pub KeepsLines : List (List ℕ) → Reading → Type 0
-KeepsLines lines x = (more : List (List ℕ)) → scenario_from (lines_from 1 (lines ++ more)) ≡ follow x (lines_from (length lines + 1) more)
+-- the scenario of these lines and of others behind them is what was read, and the others; so many DataNodes report
+abbrev pub KeepsLines : ℕ → List (List ℕ) → Reading → Type 0
+KeepsLines datanodes lines x = (more : List (List ℕ)) → scenario_from (lines_from datanodes 1 (lines ++ more)) ≡ follow x (lines_from datanodes (length lines + 1) more)
 
 -- of a text so many lines have ended, and a sink that was this first has read them
-pub record LinesRead {S : Type 0} (has_read : S → Reading → S → Type 0) (first : S) (text : List ℕ) (ended : ℕ) (l : Lines) (s : S) : Type 0 where
+pub record LinesRead {S : Type 0} (datanodes : ℕ) (has_read : S → Reading → S → Type 0) (first : S) (text : List ℕ) (ended : ℕ) (l : Lines) (s : S) : Type 0 where
   pub lines : List (List ℕ)
   pub come : HasCome (max_line + 1) text lines l
   pub count : ended ≡ length lines
   pub reading : Reading
   pub read : has_read first reading s
-  pub kept : KeepsLines lines reading
+  pub kept : KeepsLines datanodes lines reading
 
 -- of each text so many lines have ended further on, and are read as well
-abbrev pub LinesReadOn : {S : Type 0} → (S → Reading → S → Type 0) → ℕ → Lines → S → ℕ → Lines → S → Type 0
-LinesReadOn {S} has_read n l s n' l' s' = (first : S) (text : List ℕ) → LinesRead has_read first text n l s → LinesRead has_read first text n' l' s'
+abbrev pub LinesReadOn : {S : Type 0} → ℕ → (S → Reading → S → Type 0) → ℕ → Lines → S → ℕ → Lines → S → Type 0
+LinesReadOn {S} datanodes has_read n l s n' l' s' =
+    (first : S) (text : List ℕ) → LinesRead datanodes has_read first text n l s → LinesRead datanodes has_read first text n' l' s'
 
 -- the text of a line, as far as one is kept that is too long, and whether the line is blank
 abbrev pub IsLineText : List ℕ → List ℕ → Bool → Type 0
 IsLineText line text blank = IsTextOf (max_line + 1) line text blank
 
--- the line of this number is refused
-pub record IsRefusedAs (line : List ℕ) (n : ℕ) (bad : ScenarioFault) : Type 0 where
+-- the line of this number is refused, where so many DataNodes report
+pub record IsRefusedAs (datanodes : ℕ) (line : List ℕ) (n : ℕ) (bad : ScenarioFault) : Type 0 where
   pub number : bad.line ≡ n
   pub said : is_blank line ≡ false
-  pub fault : bad.fault ≢ OutOfMemory → either_of_line line ≡ Err bad.fault
+  pub fault : bad.fault ≢ OutOfMemory → either_of_line datanodes line ≡ Err bad.fault

@@ -36,6 +36,6 @@ abbrev pub followed_by_line : Reading → ScenarioLine → Reading
 followed_by_line x (edit line) = with_edit_line x line
 followed_by_line x (report r) = with_report_line x r
 
--- what was read before a line of this text and behind it: a blank line says nothing
-abbrev pub IsFollowed : List ℕ → Reading → Reading → Type 0
-IsFollowed text x next = MatchBool (is_blank text) (next ≡ x) ((line : Line) × (either_of_line text ≡ Ok line) × (next ≡ followed_by_line x (line_as text line)))
+-- what was read before a line of this text and behind it, where so many DataNodes report: a blank line says nothing
+abbrev pub IsFollowed : ℕ → List ℕ → Reading → Reading → Type 0
+IsFollowed datanodes text x next = MatchBool (is_blank text) (next ≡ x) ((line : Line) × (either_of_line datanodes text ≡ Ok line) × (next ≡ followed_by_line x (line_as text line)))

@@ -1,11 +1,10 @@
 -- A scenario's bytes as lines, the lines as edits and messages.
-use Rattle.std.specs.Prelude.{◌≡◌, ◌≤◌, ℕ, ◌+◌, ◌==◌, List, [], ◌∷◌, length, flat_map, if◌then◌else◌, Result, Ok, Err}
+use Rattle.std.specs.Prelude.{◌≡◌, ◌≤◌, ℕ, ◌+◌, ◌==◌, List, [], ◌∷◌, length, flat_map, max, if◌then◌else◌, Result, Ok, Err}
 use Rattle.std.specs.List.{All}
 use Rattle.nn_bytes.specs.Lines.{is_blank}
 use Rattle.nn_bytes.specs.Pieces.{pieces}
 use Rattle.nn_types.specs.declared.report.Message.{Message}
 use Rattle.nn_types.specs.declared.report.Report.{Report}
-use Rattle.nn_types.specs.Limits.{max_datanodes}
 use Rattle.nn_edits.specs.Reading.{either_of_line}
 use Rattle.nn_edits.specs.declared.fault.LineFault.{LineFault}
 use Rattle.nn_edits.specs.declared.line.Line.{Line}
@@ -38,14 +37,15 @@ abbrev pub with_read : ℕ → List ℕ → Result Line LineFault → Result (Li
 with_read n text (Ok line) later = and_later (line_as text line) later
 with_read n text (Err fault) later = Err (record { fault = fault; line = n })
 
--- the lines among texts that are counted from n, blank ones passed over, or the first fault with its line
-unfoldable pub lines_from : ℕ → List (List ℕ) → Result (List ScenarioLine) ScenarioFault
-lines_from n [] = Ok []
-lines_from n (text ∷ texts) = if is_blank text then lines_from (n + 1) texts else with_read n text (either_of_line text) (lines_from (n + 1) texts)
+-- the lines among texts that are counted from n, blank ones passed over, or the first fault with its line; so many DataNodes report
+unfoldable pub lines_from : ℕ → ℕ → List (List ℕ) → Result (List ScenarioLine) ScenarioFault
+lines_from datanodes n [] = Ok []
+lines_from datanodes n (text ∷ texts) =
+    if is_blank text then lines_from datanodes (n + 1) texts else with_read n text (either_of_line datanodes text) (lines_from datanodes (n + 1) texts)
 
 -- the lines of a text
-abbrev pub scenario_lines : List ℕ → Result (List ScenarioLine) ScenarioFault
-scenario_lines text = lines_from 1 (pieces text)
+abbrev pub scenario_lines : ℕ → List ℕ → Result (List ScenarioLine) ScenarioFault
+scenario_lines datanodes text = lines_from datanodes 1 (pieces text)
 
 -- ---- What the lines say.
 
@@ -88,9 +88,9 @@ abbrev pub scenario_from : Result (List ScenarioLine) ScenarioFault → Result S
 scenario_from (Ok lines) = Ok (scenario_with (cut (edit_lines lines)) (steps_of lines))
 scenario_from (Err bad) = Err bad
 
--- the scenario that a text is, or its first line that is neither an edit nor a report
-unfoldable pub scenario_of : List ℕ → Result Scenario ScenarioFault
-scenario_of text = scenario_from (scenario_lines text)
+-- the scenario that a text is, or its first line that is neither an edit nor a report of one of so many DataNodes
+unfoldable pub scenario_of : ℕ → List ℕ → Result Scenario ScenarioFault
+scenario_of datanodes text = scenario_from (scenario_lines datanodes text)
 
 -- ---- What was read.
 
@@ -99,15 +99,15 @@ abbrev pub scenario_of_read : Read → Scenario
 scenario_of_read s = record { parts = s.parts.items; steps = s.steps; datanodes = s.datanodes }
 
 -- the messages of the steps are those of the text's lines: of each DataNode its reports, numbered from 1
-abbrev pub HasMessagesOf : List ℕ → Scenario → Type 0
-HasMessagesOf text s = (lines : List ScenarioLine) × (scenario_lines text ≡ Ok lines) × ((dn : ℕ) → lanes_of_steps s.steps dn ≡ messages_of lines dn)
+abbrev pub HasMessagesOf : ℕ → List ℕ → Scenario → Type 0
+HasMessagesOf datanodes text s = (lines : List ScenarioLine) × (scenario_lines datanodes text ≡ Ok lines) × ((dn : ℕ) → lanes_of_steps s.steps dn ≡ messages_of lines dn)
 
 -- What every scenario is: it has an edit for each transaction of its parts, each message is the next one of its DataNode, the messages are lanes, and
--- they are of DataNodes from 1 to 256 at most.
-pub record IsLawfulScenario (s : Scenario) : Type 0 where
+-- they are of DataNodes from 1 to the number of those that report, at most.
+pub record IsLawfulScenario (datanodes : ℕ) (s : Scenario) : Type 0 where
   pub edits : edit_count s.steps ≡ length (flat_map (λ part. part.txs) s.parts)
   pub in_turn : AreNextMessages no_messages s.steps
   pub messages : AreNumberedLanes (lanes_of_steps s.steps)
   pub within : All (IsStepOf s.datanodes) s.steps
   pub datanodes_from : 1 ≤ s.datanodes
-  pub datanodes_to : s.datanodes ≤ max_datanodes
+  pub datanodes_to : s.datanodes ≤ max 1 datanodes

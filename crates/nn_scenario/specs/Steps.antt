@@ -1,8 +1,7 @@
 -- The steps of a scenario: edits and messages, in the order of its lines.
-use Rattle.std.specs.Prelude.{◌≡◌, ℕ, ◌+◌, ◌<◌, ◌≤◌, List, [], ◌∷◌, ◌++◌, length, max, slice_index}
+use Rattle.std.specs.Prelude.{◌≡◌, ℕ, ◌+◌, ◌≤◌, ◌==◌, List, [], ◌∷◌, ◌++◌, length, max, get_or, if◌then◌else◌}
 use Rattle.nn_types.specs.declared.report.Message.{Message}
 use Rattle.nn_types.specs.declared.report.Report.{Report}
-use Rattle.nn_types.specs.Limits.{max_datanodes}
 use Rattle.nn_model.specs.Lanes.{Lanes, no_messages, followed_by}
 use Rattle.nn_scenario.specs.declared.steps.Step.{Step}
 use Rattle.nn_scenario.specs.declared.steps.Step.TheVariants as step
@@ -52,8 +51,21 @@ IsStepOf datanodes (step.Message m) = (1 ≤ m.dn) × (m.dn ≤ datanodes)
 abbrev pub with_report : List Step → Report → List Step
 with_report steps r = steps ++ step.Message (message_in_turn (lanes_of_steps steps) r) ∷ []
 
--- of each DataNode that there can be it is known how many messages it sent in these steps, and the greatest that sent one
+-- ---- Counts of messages: each stands at the place of its DataNode's number.
+
+-- how many messages a DataNode sent, none where it has no place
+abbrev pub sent_by : ℕ → List ℕ → ℕ
+sent_by dn sent = get_or sent dn 0
+
+-- each DataNode sent as many
+abbrev pub SameSent : List ℕ → List ℕ → Type 0
+SameSent old new = (dn : ℕ) → sent_by dn new ≡ sent_by dn old
+
+-- this DataNode sent one more, and each other as many
+abbrev pub OneMoreSent : ℕ → List ℕ → List ℕ → Type 0
+OneMoreSent from old new = (dn : ℕ) → sent_by dn new ≡ sent_by dn old + (if from == dn then 1 else 0)
+
+-- of each DataNode it is known how many messages it sent in these steps, and the greatest that sent one
 pub record IsCounted (steps : List Step) (sent : List ℕ) (datanodes : ℕ) : Type 0 where
-  pub places : length sent ≡ max_datanodes + 1
-  pub each : (dn : ℕ) → dn < max_datanodes + 1 → slice_index sent dn ≡ length (lanes_of_steps steps dn)
+  pub each : (dn : ℕ) → sent_by dn sent ≡ length (lanes_of_steps steps dn)
   pub greatest : datanodes ≡ datanode_count steps

@@ -23,11 +23,12 @@ use std::marker::Model;
 pub const MAX_KEPT: usize = MAX_LINE_LEN + 1;
 
 /// Reads a scenario to the reader's end, and hands each line to the sink as soon as it has ended, up to the first that is
-/// refused: that line is the answer. Behind it the input is read on, since one that can't be read is told first. The last line may
+/// refused: that line is the answer. A report of a DataNode above `datanodes` is refused. Behind it the input is read on, since one that can't be read is told first. The last line may
 /// lack its line feed. No line is kept behind its end, and of one that is too long 65,537 bytes at most. After a fault of the input
 /// discard the sink too: nothing is said of how far it came.
 pub fn follow_lines<R: Read, S: LineSink>(
     alloc: Global,
+    datanodes: u16,
     lines: &mut Lines,
     input: &mut Reader<R>,
     sink: &mut S,
@@ -35,8 +36,9 @@ pub fn follow_lines<R: Read, S: LineSink>(
     requires fresh { IsFresh lines.old }
     requires new { S.has_read sink.old nothing_read sink.old }
     requires none { S.count sink.old ≡ 0 }
+    requires takes { S.takes datanodes sink.old }
     ensures read { IfOk result (λ bad. (bytes : List ℕ) × CameWithin max_input (ahead lines.old) input.old input.new bytes
-        × IsReadBy S.has_read sink.old (ahead lines.old ++ bytes) (sink_unless bad sink.new)) }
+        × IsReadBy datanodes S.has_read sink.old (ahead lines.old ++ bytes) (sink_unless bad sink.new)) }
     ensures end { OnOk result (IsAtEnd input.new.left) }
     ensures none_failed { OnOk result (input.new.failed ≡ input.old.failed) }
     ensures why { IfErr result (IsLeftUnread max_input (ahead lines.old) input.old input.new) }
@@ -46,7 +48,7 @@ pub fn follow_lines<R: Read, S: LineSink>(
     let mut reader = LineReader::new(alloc);
     let mut room = MAX_INPUT - lines.left();
     'reads: loop {
-        let Ok(bad) = reader.take_lines(sink, lines) else {
+        let Ok(bad) = reader.take_lines(datanodes, sink, lines) else {
             return Err(InputFault::OutOfMemory);
         };
         if let Some(bad) = bad {
@@ -60,7 +62,7 @@ pub fn follow_lines<R: Read, S: LineSink>(
             Err(fault) => return Err(fault),
         };
         if !more {
-            return Ok(reader.take_last(sink, lines));
+            return Ok(reader.take_last(datanodes, sink, lines));
         }
     }
 }
@@ -112,18 +114,21 @@ impl LineReader {
     // Takes each line that ends in what was read, up to the first that is refused.
     fn take_lines<S: LineSink>(
         &mut self,
+        datanodes: u16,
         sink: &mut S,
         lines: &mut Lines,
     ) -> Result<Option<ScenarioFault>, AllocError>
-        requires come { (first : S) × (text : List ℕ) × LinesRead S.has_read first text self.old lines.old sink.old }
+        requires come { (first : S) × (text : List ℕ) × LinesRead datanodes S.has_read first text self.old lines.old sink.old }
         requires few { self.old + length (ahead lines.old) ≤ max_input }
         requires count { S.count sink.old ≤ self.old }
-        ensures read { IfOk result (λ bad. bad ≡ None → LinesReadOn S.has_read self.old lines.old sink.old self.new lines.new sink.new) }
+        requires takes { S.takes datanodes sink.old }
+        ensures read { IfOk result (λ bad. bad ≡ None → LinesReadOn datanodes S.has_read self.old lines.old sink.old self.new lines.new sink.new) }
         ensures all { IfOk result (λ bad. bad ≡ None → ahead lines.new ≡ []) }
         ensures bad { IfOk result (λ bad. IfSome bad (λ e. (first : S) (text : List ℕ)
-            → LinesRead S.has_read first text self.old lines.old sink.old → IsRefusedLine text e)) }
+            → LinesRead datanodes S.has_read first text self.old lines.old sink.old → IsRefusedLine datanodes text e)) }
         ensures few { self.new ≤ max_input }
         ensures count { S.count sink.new ≤ self.new }
+        ensures takes { IfOk result (λ bad. bad ≡ None → S.takes datanodes sink.new) }
     {
         'cuts: loop {
             let Ok(found) = lines.cut(MAX_KEPT) else {
@@ -133,6 +138,7 @@ impl LineReader {
                 return Ok(None);
             };
             if let Err(bad) = self.take(
+                datanodes,
                 sink,
                 lines.text(place),
                 lines.is_blank(place),
@@ -144,16 +150,22 @@ impl LineReader {
     }
 
     // The bytes behind the last line feed, once all that was read is cut, are a line too. The answer is why it is refused.
-    fn take_last<S: LineSink>(&mut self, sink: &mut S, lines: &Lines) -> Option<ScenarioFault>
-        requires come { (first : S) × (text : List ℕ) × LinesRead S.has_read first text self.old lines.now sink.old }
+    fn take_last<S: LineSink>(
+        &mut self,
+        datanodes: u16,
+        sink: &mut S,
+        lines: &Lines,
+    ) -> Option<ScenarioFault>
+        requires come { (first : S) × (text : List ℕ) × LinesRead datanodes S.has_read first text self.old lines.now sink.old }
         requires all { ahead lines.now ≡ [] }
         requires few { self.old ≤ max_input }
         requires count { S.count sink.old ≤ self.old }
-        ensures read { (first : S) (text : List ℕ) → LinesRead S.has_read first text self.old lines.now sink.old
-            → IsReadBy S.has_read first text (sink_unless result sink.new) }
+        requires takes { S.takes datanodes sink.old }
+        ensures read { (first : S) (text : List ℕ) → LinesRead datanodes S.has_read first text self.old lines.now sink.old
+            → IsReadBy datanodes S.has_read first text (sink_unless result sink.new) }
         ensures count { S.count sink.new ≤ self.old + 1 }
     {
-        match self.take(sink, lines.torn(), lines.is_torn_blank(), 0) {
+        match self.take(datanodes, sink, lines.torn(), lines.is_torn_blank(), 0) {
             Ok(()) => None,
             Err(bad) => Some(bad),
         }
@@ -162,6 +174,7 @@ impl LineReader {
     /// Reads the next line, and hands it to the sink unless it is blank. So many of its first bytes are known to be printable.
     pub(crate) fn take<S: LineSink>(
         &mut self,
+        datanodes: u16,
         sink: &mut S,
         text: &[u8],
         blank: bool,
@@ -171,10 +184,12 @@ impl LineReader {
         requires line { (line : List ℕ) × (is_unbroken line ≡ true) × IsLineText line text.now blank }
         requires few { self.old ≤ max_input }
         requires count { S.count sink.old ≤ self.old }
-        ensures ok { OnOk result ((line : List ℕ) → IsLineText line text.now blank → Hands S.has_read line sink.old sink.new) }
-        ensures bad { IfErr result (λ e. (line : List ℕ) → IsLineText line text.now blank → IsRefusedAs line self.new e) }
+        requires takes { S.takes datanodes sink.old }
+        ensures ok { OnOk result ((line : List ℕ) → IsLineText line text.now blank → Hands datanodes S.has_read line sink.old sink.new) }
+        ensures bad { IfErr result (λ e. (line : List ℕ) → IsLineText line text.now blank → IsRefusedAs datanodes line self.new e) }
         ensures ended { self.new ≡ self.old + 1 }
         ensures count { S.count sink.new ≤ self.new }
+        ensures takes { OnOk result (S.takes datanodes sink.new) }
     {
         self.ended += 1;
         let line = self.ended;
@@ -184,6 +199,7 @@ impl LineReader {
         let read = match read_line_into(
             self.alloc,
             &mut self.scratch,
+            datanodes,
             &mut self.texts,
             text,
             printable,

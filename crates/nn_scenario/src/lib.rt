@@ -9,6 +9,7 @@ mod follow;
 mod lines;
 mod scenario;
 mod segments;
+mod sent;
 mod step_list;
 mod steps;
 

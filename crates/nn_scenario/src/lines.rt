@@ -1,8 +1,7 @@
 //! What is done with the lines of a scenario.
-ghost use Rattle.std.specs.Prelude.{◌≡◌, ◌≤◌, ◌<◌, ◌+◌, ◌^◌, ℕ, true, Ok, OnOk};
+ghost use Rattle.std.specs.Prelude.{◌≡◌, ◌≤◌, ◌<◌, ◌+◌, ◌^◌, ℕ, true, OnOk};
 ghost use Rattle.nn_bytes.specs.Pieces.{is_unbroken};
-ghost use Rattle.nn_edits.specs.Grammar.{IsLawfulLine};
-ghost use Rattle.nn_edits.specs.Reading.{either_of_line};
+ghost use Rattle.nn_scenario.specs.Lines.{WasReadFor};
 ghost use Rattle.nn_scenario.specs.Reading.{Reading, followed_by_line};
 ghost use Rattle.nn_scenario.specs.Scenario.{line_as};
 
@@ -17,6 +16,9 @@ pub trait LineSink {
     /// How many lines it has taken, at most.
     ghost count: { Self → ℕ };
 
+    /// `takes n s`: the sink s takes messages of the DataNodes from 1 to n.
+    ghost takes: { ℕ → Self → Type 0 };
+
     /// Takes one line: its text, which is lent without a line feed, and what it was read as. Of an edit that it does not keep it
     /// gives the texts of the paths back, for the next line. Where memory is refused it may have taken part of the line: no line is
     /// handed to it any more.
@@ -28,9 +30,9 @@ pub trait LineSink {
         texts: &mut KeptTexts,
     ) -> Result<(), AllocError>
         requires unbroken { is_unbroken text.now ≡ true }
-        requires read { either_of_line text.now ≡ Ok read }
-        requires lawful { IsLawfulLine read }
+        requires read { WasReadFor takes self.old text.now read }
         requires few { count self.old < 2 ^ 32 }
         ensures read { OnOk result ((first : Self) (x : Reading) → has_read first x self.old → has_read first (followed_by_line x (line_as text.now read)) self.new) }
-        ensures count { count self.new ≤ count self.old + 1 };
+        ensures count { count self.new ≤ count self.old + 1 }
+        ensures takes { OnOk result ((datanodes : ℕ) → takes datanodes self.old → takes datanodes self.new) };
 }

@@ -43,23 +43,22 @@ pub struct Scenario {
 
 /// The scenario of a text, or its first line that is refused. Lines end with a line feed, which the last may lack; a
 /// line of spaces, tabs and carriage returns alone is passed over. The messages of each DataNode are numbered from 1, in
-/// the order of the lines. Each line is parsed once, and the bytes of an edit line are copied once.
-pub fn read_lines(alloc: Global, input: &[u8]) -> Result<Scenario, ScenarioFault>
+/// the order of the lines. A report of a DataNode above `datanodes` is refused. Each line is parsed once, and the bytes of an edit
+/// line are copied once.
+pub fn read_lines(alloc: Global, datanodes: u16, input: &[u8]) -> Result<Scenario, ScenarioFault>
     requires { length input.now ≤ max_input }
-    ensures ok { IfOk result (λ s. scenario_of input.now ≡ Ok (scenario_of_read s)) }
-    ensures messages { IfOk result (λ s. HasMessagesOf input.now (scenario_of_read s)) }
-    ensures lawful { IfOk result (λ s. IsLawfulScenario (scenario_of_read s)) }
-    ensures bad { IfErr result (λ e. e.fault ≢ LineFault.OutOfMemory → scenario_of input.now ≡ Err e) }
+    ensures ok { IfOk result (λ s. scenario_of datanodes input.now ≡ Ok (scenario_of_read s)) }
+    ensures messages { IfOk result (λ s. HasMessagesOf datanodes input.now (scenario_of_read s)) }
+    ensures lawful { IfOk result (λ s. IsLawfulScenario datanodes (scenario_of_read s)) }
+    ensures bad { IfErr result (λ e. e.fault ≢ LineFault.OutOfMemory → scenario_of datanodes input.now ≡ Err e) }
 {
-    let Ok(mut reading) = Reading::new(alloc) else {
-        return Err(no_memory(0));
-    };
+    let mut reading = Reading::new(alloc);
     let mut reader = LineReader::new(alloc);
     let mut rest = input;
     'lines: loop {
         let end = line_end(rest);
         let line = &rest[..end];
-        if let Err(bad) = reader.take(&mut reading, line, is_blank(line), 0) {
+        if let Err(bad) = reader.take(datanodes, &mut reading, line, is_blank(line), 0) {
             return Err(bad);
         }
         if end == rest.len() {
@@ -71,7 +70,8 @@ pub fn read_lines(alloc: Global, input: &[u8]) -> Result<Scenario, ScenarioFault
 
 /// The scenario of all lines, where none was refused.
 pub fn scenario_of(lines: Result<Reading, ScenarioFault>) -> Result<Scenario, ScenarioFault>
-    ensures { (first : Reading) (text : List ℕ) → IsReadBy (λ _ x reading. reading ≡ x) first text lines → IsScenarioOf text result }
+    ensures { (datanodes : ℕ) (first : Reading) (text : List ℕ)
+        → IsReadBy datanodes (λ _ x reading. reading ≡ x) first text lines → IsScenarioOf datanodes text result }
 {
     match lines {
         Ok(reading) => reading.into_scenario(),
@@ -107,6 +107,9 @@ impl LineSink for Reading {
 
     ghost count = { λ reading. length reading.steps };
 
+    // Of all that there can be.
+    ghost takes = { λ _ _. Unit {0} };
+
     // It keeps each edit, with the texts of its paths.
     fn line(
         &mut self,
@@ -123,16 +126,15 @@ impl LineSink for Reading {
 }
 
 impl Reading {
-    /// Nothing.
-    pub fn new(alloc: Global) -> Result<Reading, AllocError>
-        ensures { IfOk result (λ reading. reading ≡ nothing_read) }
+    /// Nothing. Takes no memory.
+    pub fn new(alloc: Global) -> Reading
+        ensures { result ≡ nothing_read }
     {
-        let steps = Steps::new(alloc)?;
-        Ok(Reading {
+        Reading {
             parts: Vec::new(alloc),
             in_hand: Part::new(alloc),
-            steps,
-        })
+            steps: Steps::new(alloc),
+        }
     }
 
     // An end mark ends the part in hand.

@@ -1,10 +1,9 @@
 //! The steps of a scenario, with its messages numbered.
-ghost use Rattle.std.specs.Prelude.{◌≡◌, ◌≤◌, ◌++◌, ◌∷◌, [], IfOk, OnOk, OnErr, replicate};
+ghost use Rattle.std.specs.Prelude.{◌≡◌, ◌++◌, ◌∷◌, [], OnOk, OnErr};
 ghost use Rattle.nn_scenario.specs.Steps.{message, with_report, datanode_count};
-ghost use Rattle.nn_types.specs.Limits.{max_datanodes};
 
+use crate::sent::Sent;
 use crate::step_list::StepList;
-use nn_types::limits::MAX_DATANODES;
 use nn_types::{Message, Report};
 use std::alloc::{AllocError, Global};
 use std::marker::Model;
@@ -17,15 +16,11 @@ pub enum Step {
     Message(Message),
 }
 
-// A place for each DataNode, and one for 0, which none has.
-const PLACES: usize = MAX_DATANODES as usize + 1;
-
 /// Steps in order. Each message has the number that its DataNode counted it under, from 1.
 #[derive(Debug, Drop)]
 pub struct Steps {
     items: StepList,
-    // how many messages each DataNode sent
-    sent: Vec<u64>,
+    sent: Sent,
     datanodes: u16,
 }
 
@@ -38,20 +33,19 @@ impl Model for Steps {
 
     ghost view = { λ s. s.items };
 
-    ghost invariant = { λ s. IsCounted s.items s.sent.items s.datanodes };
+    ghost invariant = { λ s. IsCounted s.items s.sent s.datanodes };
 }
 
 impl Steps {
-    /// No steps.
-    pub fn new(alloc: Global) -> Result<Steps, AllocError>
-        ensures { IfOk result (λ steps. steps ≡ []) }
+    /// No steps. Takes no memory.
+    pub fn new(alloc: Global) -> Steps
+        ensures { result ≡ [] }
     {
-        let sent = zeros(alloc, PLACES)?;
-        Ok(Steps {
+        Steps {
             items: StepList::new(alloc),
-            sent,
+            sent: Sent::new(alloc),
             datanodes: 1,
-        })
+        }
     }
 
     /// The next step is an edit. Where memory is refused the steps stay.
@@ -65,17 +59,16 @@ impl Steps {
 
     /// The next step is the next message of a DataNode. Where memory is refused the steps stay.
     pub fn push_report(&mut self, report: Report) -> Result<(), AllocError>
-        requires { report.dn ≤ max_datanodes }
         ensures ok { OnOk result (self.new ≡ with_report self.old report) }
         ensures left { OnErr result (self.new ≡ self.old) }
     {
         // Recalls to the prover that steps fit in memory: a DataNode sent no more messages than there are.
         let _recalled = self.items.len();
         let dn = report.dn;
-        let number = self.sent[usize::from(dn)] + 1;
-        let next = message(report, number);
-        self.items.push_message(next)?;
-        self.sent[usize::from(dn)] = number;
+        self.sent.reserve(dn)?;
+        let number = self.sent.count_of(dn) + 1;
+        self.items.push_message(message(report, number))?;
+        self.sent.more(dn);
         let datanodes = self.datanodes;
         self.datanodes = datanodes.max(dn);
         Ok(())
@@ -108,11 +101,4 @@ fn message(report: Report, number: u64) -> Message
         len: report.len,
         kind: report.kind,
     }
-}
-
-// The size is a parameter so that no proof has to look at the places one by one.
-fn zeros(alloc: Global, size: usize) -> Result<Vec<u64>, AllocError>
-    ensures { IfOk result (λ v. v.items ≡ replicate size 0) }
-{
-    vec![in alloc; 0u64; size]
 }

@@ -8,6 +8,7 @@ pub reads-init : goal.reads-init
 reads-init g c = record {
   come = nothing_so_far c.args.input.now _ c.new-reader.result c.args.lines.now c.requires.fresh c.requires.new c.new-reader.ensures (omega (arith, c.left.ensures.left, c.left.ensures.few));
   count = omega (arith, c.requires.none);
+  takes = c.requires.takes;
 }
 
 pub take_lines-requires-clause-few : goal.take_lines-requires-clause-few
@@ -49,4 +50,5 @@ reads-preserved g c =
     record {
       come = read_more x read (c.in-Ok.ensures.all c.in_default-bad.is) c.in-Ok-read_on.ensures.read c.in-Ok-read_on.ensures.room;
       count = c.in-Ok.ensures.count;
+      takes = c.in-Ok.ensures.takes c.in_default-bad.is;
     }

@@ -6,8 +6,9 @@ use Rattle.nn_scenario.proofs.follow.follow_lines.Given as goal
 -- each line of what was read was handed on
 abbrev pub invariant-reads : goal.invariant-reads
 invariant-reads g l = record {
-  come : SoFar g.S.LineSink.has_read l.fn.sink (ahead l.fn.lines) l.fn.input l.input l.room l.reader l.lines l.sink;
+  come : SoFar l.fn.datanodes g.S.LineSink.has_read l.fn.sink (ahead l.fn.lines) l.fn.input l.input l.room l.reader l.lines l.sink;
   count : g.S.LineSink.count l.sink ≤ l.reader;
+  takes : g.S.LineSink.takes l.fn.datanodes l.sink;
 }
 
 abbrev pub decreases-reads : goal.decreases-reads

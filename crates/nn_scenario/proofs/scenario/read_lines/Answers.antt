@@ -8,8 +8,8 @@ use Rattle.nn_scenario.proofs.scenario.read_lines.Goals as goal
 pub lines-init : goal.lines-init
 lines-init c = record {
   few = omega (arith, c.requires, c.new-reader.ensures);
-  count = (let none = ap (λ r. length r.steps) c.in-Ok.ensures in omega (arith, none));
-  on = none_read c.args.input.now c.new-reader.result c.in-Ok.reading c.new-reader.ensures c.in-Ok.ensures;
+  count = (let none = ap (λ r. length r.steps) c.new-reading.ensures in omega (arith, none));
+  on = none_read c.args.datanodes c.args.input.now c.new-reader.result c.new-reading.result c.new-reader.ensures c.new-reading.ensures;
 }
 
 pub take-requires-clause-line : goal.take-requires-clause-line
@@ -22,7 +22,7 @@ pub returns-in-Err-clause-bad : goal.returns-in-Err-clause-bad
 returns-in-Err-clause-bad c =
     let rest = c.lines.rest.now in
     let end = c.line_end-end.result in
-    one_not_read c.args.input.now rest c.lines.reader c.take.new.self c.lines.reading end c.line_end-end.ensures.end c.take.ensures.ended c.lines.invariant.on c.in-Err.bad
+    one_not_read c.args.datanodes c.args.input.now rest c.lines.reader c.take.new.self c.lines.reading end c.line_end-end.ensures.end c.take.ensures.ended c.lines.invariant.on c.in-Err.bad
     (c.in-Err.ensures.bad (take end rest) (line_text (take end rest) c.is_blank.result c.is_blank.ensures))
 
 pub returns-then-end-rest : goal.returns-then-end-rest
@@ -31,8 +31,8 @@ returns-then-end-rest c =
     let end = c.line_end-end.result in
     let hands = c.in_default-take.ensures.ok (take end rest) (line_text (take end rest) c.is_blank.result c.is_blank.ensures) in
     let read =
-    last_one_read c.args.input.now rest c.lines.reader c.take.new.self c.lines.reading end c.line_end-end.ensures.end c.take.ensures.ended c.lines.invariant.on c.take.new.sink (omega (arith, c.if-end-rest.true)) hands in
-    let is = c.scenario_of.ensures c.take.new.sink c.args.input.now read in
+    last_one_read c.args.datanodes c.args.input.now rest c.lines.reader c.take.new.self c.lines.reading end c.line_end-end.ensures.end c.take.ensures.ended c.lines.invariant.on c.take.new.sink (omega (arith, c.if-end-rest.true)) hands in
+    let is = c.scenario_of.ensures c.args.datanodes c.take.new.sink c.args.input.now read in
     record { ok = is.ok; messages = is.messages; lawful = is.lawful; bad = is.bad }
 
 pub lines-preserved : goal.lines-preserved
@@ -45,7 +45,7 @@ lines-preserved c =
     record {
       few = subst (λ r. c.take.new.self + length r ≤ max_input) (sym left) (omega (arith, length-drop (end + 1) rest, c.lines.invariant.few, c.take.ensures.ended, less));
       count = c.take.ensures.count;
-      on = subst (GoesOn c.args.input.now c.take.new.self c.take.new.sink) (sym left)
-          (one_read c.args.input.now rest c.lines.reader c.take.new.self c.lines.reading end c.line_end-end.ensures.end c.take.ensures.ended c.lines.invariant.on c.take.new.sink less
+      on = subst (GoesOn c.args.datanodes c.args.input.now c.take.new.self c.take.new.sink) (sym left)
+          (one_read c.args.datanodes c.args.input.now rest c.lines.reader c.take.new.self c.lines.reading end c.line_end-end.ensures.end c.take.ensures.ended c.lines.invariant.on c.take.new.sink less
           (c.line_end-end.ensures.there less) hands);
     }

@@ -8,7 +8,7 @@ abbrev pub invariant-lines : goal.invariant-lines
 invariant-lines l = record {
   few : l.reader + length l.rest ≤ max_input;
   count : length l.reading.steps ≤ l.reader;
-  on : GoesOn l.input l.reader l.reading l.rest;
+  on : GoesOn l.datanodes l.input l.reader l.reading l.rest;
 }
 
 abbrev pub decreases-lines : goal.decreases-lines

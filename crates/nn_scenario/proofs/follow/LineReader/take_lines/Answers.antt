@@ -18,17 +18,18 @@ pub returns-in-Err-clause-bad : goal.returns-in-Err-clause-bad
 returns-in-Err-clause-bad g c = λ first text before.
     let r = c.cuts.invariant.read first text before in
     let ended = of_some _ c.in-Some.is c.in-Ok.ensures.line text r.lines r.come in
-    one_refused g.S.LineSink.has_read first text c.cuts.self c.take.new.self c.cuts.lines c.cut.new.self c.cuts.sink c.take.new.sink c.in-Some.place c.take.ensures.ended r ended c.in-Err.bad
+    one_refused c.args.datanodes g.S.LineSink.has_read first text c.cuts.self c.take.new.self c.cuts.lines c.cut.new.self c.cuts.sink c.take.new.sink c.in-Some.place c.take.ensures.ended r ended c.in-Err.bad
     (c.in-Err.ensures.bad ended.line (same_text {blank = line_blank c.cut.new.self c.in-Some.place} c.text.ensures.text c.is_blank.ensures ended.text))
 
 pub cuts-preserved : goal.cuts-preserved
 cuts-preserved g c = record {
   few = omega (arith, c.take.ensures.ended, c.cuts.invariant.few, of_some _ c.in-Some.is c.in-Ok.ensures.shorter);
   count = c.take.ensures.count;
+  takes = c.in_default-take.ensures.takes;
   read =
       λ first text before.
       let r = c.cuts.invariant.read first text before in
       let ended = of_some _ c.in-Some.is c.in-Ok.ensures.line text r.lines r.come in
-      one_more g.S.LineSink.has_read first text c.cuts.self c.take.new.self c.cuts.lines c.cut.new.self c.cuts.sink c.take.new.sink c.in-Some.place c.take.ensures.ended r ended
+      one_more c.args.datanodes g.S.LineSink.has_read first text c.cuts.self c.take.new.self c.cuts.lines c.cut.new.self c.cuts.sink c.take.new.sink c.in-Some.place c.take.ensures.ended r ended
       (c.in_default-take.ensures.ok ended.line (same_text c.text.ensures.text c.is_blank.ensures ended.text));
 }

@@ -9,7 +9,8 @@ abbrev pub invariant-cuts : goal.invariant-cuts
 invariant-cuts g l = record {
   few : l.self + length (ahead l.lines) ≤ max_input;
   count : g.S.LineSink.count l.sink ≤ l.self;
-  read : LinesReadOn g.S.LineSink.has_read l.fn.self l.fn.lines l.fn.sink l.self l.lines l.sink;
+  takes : g.S.LineSink.takes l.fn.datanodes l.sink;
+  read : LinesReadOn l.fn.datanodes g.S.LineSink.has_read l.fn.self l.fn.lines l.fn.sink l.self l.lines l.sink;
 }
 
 abbrev pub decreases-cuts : goal.decreases-cuts

@@ -29,7 +29,7 @@ pub returns-then-end-rest : goal.returns-then-end-rest
 returns-then-end-rest c =
     let rest = c.lines.rest.now in
     let end = c.line_end-end.result in
-    let hands = c.in_default-take.ensures.ok (take end rest) (line_text (take end rest) c.is_blank.result c.is_blank.ensures) in
+    let hands = c.in_default.ensures.ok (take end rest) (line_text (take end rest) c.is_blank.result c.is_blank.ensures) in
     let read =
     last_one_read c.args.datanodes c.args.input.now rest c.lines.reader c.take.new.self c.lines.reading end c.line_end-end.ensures.end c.take.ensures.ended c.lines.invariant.on c.take.new.sink (omega (arith, c.if-end-rest.true)) hands in
     let is = c.scenario_of.ensures c.args.datanodes c.take.new.sink c.args.input.now read in
@@ -41,7 +41,7 @@ lines-preserved c =
     let end = c.line_end-end.result in
     let less : end < length rest = omega (arith, c.line_end-end.ensures.within, c.if-end-rest.false) in
     let left : take (length rest - (end + 1)) (drop (end + 1) rest) ≡ drop (end + 1) rest = take_rest rest (end + 1) in
-    let hands = c.in_default-take.ensures.ok (take end rest) (line_text (take end rest) c.is_blank.result c.is_blank.ensures) in
+    let hands = c.in_default.ensures.ok (take end rest) (line_text (take end rest) c.is_blank.result c.is_blank.ensures) in
     record {
       few = subst (λ r. c.take.new.self + length r ≤ max_input) (sym left) (omega (arith, length-drop (end + 1) rest, c.lines.invariant.few, c.take.ensures.ended, less));
       count = c.take.ensures.count;

@@ -329,10 +329,13 @@ fn after_blanks(text: &str, from: usize) -> usize
     if byte_at(text, from) != b' ' {
         return from;
     }
-    blanks_end(text, from)
+    if byte_at(text, from + 1) != b' ' {
+        return from + 1;
+    }
+    blanks_end(text, from + 1)
 }
 
-// The same, of its own: nearly all lines have no blank, and no loop stands in their way.
+// The same, of its own: nearly all lines have one blank at most, and no loop stands in their way.
 #[inline(never)]
 fn blanks_end(text: &str, from: usize) -> usize
     requires { from ≤ length text.now }

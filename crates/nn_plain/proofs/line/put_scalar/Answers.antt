@@ -1,4 +1,4 @@
-use Rattle.std.proofs.Common.{◌≡◌, length, refl, ap, ◌∙◌, arith}
+use Rattle.std.proofs.Common.{length, refl, ap, ◌∙◌, arith}
 use Rattle.serde_json.specs.Data.{boolean, number, string, unsigned}
 use Rattle.nn_plain.specs.Ahead.{data_at}
 use Rattle.nn_plain.proofs.FirstValue.{bool_ahead, number_ahead, string_ahead}

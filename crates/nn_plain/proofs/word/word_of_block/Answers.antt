@@ -1,4 +1,3 @@
-use Rattle.std.proofs.Common.{arith}
 use Rattle.nn_plain.proofs.KeyWords.{block_begins, block_small}
 use Rattle.nn_plain.proofs.word.word_of_block.Goals as goal
 

@@ -2,7 +2,7 @@
 use Rattle.std.specs.Prelude.{◌≡◌, ℕ, List, Result, Ok, Err}
 use Rattle.nn_image.specs.declared.fault.ImageFault.{ImageFault}
 use Rattle.nn_shadow.specs.Contents.{Shadow}
-use Rattle.nn_run.specs.Following.{Lived, LinesComeTo, start_at}
+use Rattle.nn_run.specs.Following.{Lived, LinesComeTo, datanodes_of, start_at}
 use Rattle.nn_run.specs.Start.{Start, start_in, scenario_in}
 use Rattle.nn_run.specs.declared.engine.Options.{Options}
 use Rattle.nn_run.specs.declared.following.BadInput.{BadInput}
@@ -11,6 +11,7 @@ use Rattle.nn_run.specs.declared.following.BadInput.TheVariants as halt
 -- a standby that was there when no line had come is at this start, and is asked for this
 pub record BeginsAt (options : Options) (start : Start) (first : Lived) : Type 0 where
   pub at : start_at first ≡ start
+  pub datanodes : datanodes_of first ≡ options.datanodes
   pub history : first.history ≡ options.history
   pub min : first.follower.standby.table.min ≡ options.settings.min
   pub permille : first.follower.standby.permille ≡ options.settings.permille

@@ -86,6 +86,10 @@ pub record Lived : Type 0 where
 abbrev pub line_count : Lived → ℕ
 line_count l = l.check.ended + l.check.lines + l.follower.messages
 
+-- how many DataNodes report
+abbrev pub datanodes_of : Lived → ℕ
+datanodes_of l = length l.follower.standby.numbers
+
 -- the transactions of all edit lines
 abbrev pub txs_read : Reading → List Tx
 txs_read x = flat_map (λ (p : Part). p.txs) x.parts ++ x.in_hand.txs
@@ -120,9 +124,9 @@ pub record IsNew (standby : Shadow) (history : Bool) (l : Lived) : Type 0 where
 abbrev pub parts_of : Reading → List Part
 parts_of x = x.parts ++ last_part x.in_hand
 
--- all of a text was read so
-abbrev pub IsReading : List ℕ → Reading → Type 0
-IsReading text x = scenario_of text ≡ Ok (scenario_with (parts_of x) x.steps)
+-- all of a text was read so, where so many DataNodes report
+abbrev pub IsReading : ℕ → List ℕ → Reading → Type 0
+IsReading datanodes text x = scenario_of datanodes text ≡ Ok (scenario_with (parts_of x) x.steps)
 
 -- the transactions of each segment
 abbrev pub txs_of : List Segment → List (List Tx)
@@ -145,13 +149,13 @@ pub record Stops (start : Start) (scenario : Scenario) (fault : LogFault) : Type
   pub ends : end_of_log start.txid start.namespace segments ≡ Err (stop_of fault)
 
 -- a text has no bad line, and its scenario comes to this
-abbrev pub HasScenario : List ℕ → (Scenario → Type 0) → Type 0
-HasScenario text ends = (scenario : Scenario) × (scenario_of text ≡ Ok scenario) × ends scenario
+abbrev pub HasScenario : ℕ → List ℕ → (Scenario → Type 0) → Type 0
+HasScenario datanodes text ends = (scenario : Scenario) × (scenario_of datanodes text ≡ Ok scenario) × ends scenario
 
 -- what the lines of a text come to, from where the standby was first: out of memory says nothing
 abbrev pub LinesComeTo : Lived → List ℕ → Result Shadow BadInput → Type 0
-LinesComeTo first text (Ok standby) = HasScenario text (λ scenario. HasArrived (start_at first) first.history scenario standby) × KeepsSettings first.follower.standby standby
+LinesComeTo first text (Ok standby) = HasScenario (datanodes_of first) text (λ scenario. HasArrived (start_at first) first.history scenario standby) × KeepsSettings first.follower.standby standby
 LinesComeTo first text (Err (halt.Image fault)) = ⊥
-LinesComeTo first text (Err (halt.Line bad)) = bad.fault ≢ OutOfMemory → scenario_of text ≡ Err bad
-LinesComeTo first text (Err (halt.Segment bad)) = HasScenario text (λ scenario. segments_from 1 scenario.parts ≡ Err bad)
-LinesComeTo first text (Err (halt.Log fault)) = HasScenario text (λ scenario. Stops (start_at first) scenario fault)
+LinesComeTo first text (Err (halt.Line bad)) = bad.fault ≢ OutOfMemory → scenario_of (datanodes_of first) text ≡ Err bad
+LinesComeTo first text (Err (halt.Segment bad)) = HasScenario (datanodes_of first) text (λ scenario. segments_from 1 scenario.parts ≡ Err bad)
+LinesComeTo first text (Err (halt.Log fault)) = HasScenario (datanodes_of first) text (λ scenario. Stops (start_at first) scenario fault)

@@ -40,10 +40,10 @@ abbrev pub loaded_in : Bool → List ℕ → Option (Result (Namespace × ℕ) I
 loaded_in false input = None
 loaded_in true input = image_read (divided input)
 
--- the image of an input and its scenario, as they were read
-pub record IsRead (from_image : Bool) (input : List ℕ) (r : InputParts) : Type 0 where
+-- the image of an input and its scenario, as they were read where so many DataNodes report
+pub record IsRead (datanodes : ℕ) (from_image : Bool) (input : List ℕ) (r : InputParts) : Type 0 where
   pub loaded : loaded_in from_image input ≡ r.loaded
-  pub read : IsScenarioOf (scenario_in from_image input) r.lines
+  pub read : IsScenarioOf datanodes (scenario_in from_image input) r.lines
 
 -- all that the reader gave is an input, of which this holds
 pub record IsReadOfAll (from_image : Bool) (is_read : List ℕ → Type 0) (old new : Reader) : Type 0 where

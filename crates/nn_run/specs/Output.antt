@@ -80,17 +80,17 @@ standby_at_end lanes end = record {
 
 -- where it is asked for: what an operator reads of that standby
 abbrev pub summary_part : Options → Lanes → LogEnd → List ℕ
-summary_part options lanes end = if options.summary then summary_text (summary_of options.settings.permille options.settings.min (items lanes) (standby_at_end lanes end)) else []
+summary_part options lanes end = if options.summary then summary_text (summary_of options.datanodes options.settings.permille options.settings.min (items lanes) (standby_at_end lanes end)) else []
 
 -- where they are asked for: the blocks that keep safe mode on
 abbrev pub unsafe_part : Options → Lanes → LogEnd → List ℕ
-unsafe_part options lanes end = if options.unsafe_blocks then unsafe_text options.settings.min (picture_replica end.namespace (items lanes)) end.namespace.rows else []
+unsafe_part options lanes end = if options.unsafe_blocks then unsafe_text options.datanodes options.settings.min (picture_replica end.namespace (items lanes)) end.namespace.rows else []
 
 -- after the log: the namespace, the tables that it and the items of these lanes make, and what more is asked for
 abbrev pub after_log : Options → Lanes → Result LogEnd LogStop → Printed
 after_log options lanes (Ok end) = record {
   text =
-      (listing_text end.last end.namespace ++ tables_text options.settings.permille options.settings.min end.namespace (items lanes))
+      (listing_text end.last end.namespace ++ tables_text options.datanodes options.settings.permille options.settings.min end.namespace (items lanes))
       ++ (summary_part options lanes end ++ (unsafe_part options lanes end ++ image_part options.image end));
   status = 0;
   error = [];
@@ -108,7 +108,7 @@ after_lines start options (Err bad) = line_fault bad
 -- what is printed for a scenario from a start: the first bad line, or the first bad segment, or the first transaction that is missing or
 -- refused, or the namespace, the tables and what more is asked for. It tells of no standby: neither of what it held, nor in which order it did things.
 unfoldable pub output_of : Start → Options → List ℕ → Printed
-output_of start options text = after_lines start options (scenario_of text)
+output_of start options text = after_lines start options (scenario_of options.datanodes text)
 
 -- ---- The history before it.
 
@@ -132,7 +132,7 @@ AreEventsOf start threads steps whole events =
 -- What is printed for a scenario from a start: its output, and before it the history, where that is asked for.
 pub record IsPrintedFrom (start : Start) (threads : Bool) (options : Options) (text : List ℕ) (p : Printed) : Type 0 where
   pub events : History
-  pub happened : (scenario : Scenario) → scenario_of text ≡ Ok scenario → AreEventsOf start threads scenario.steps (segments_from 1 scenario.parts) events
+  pub happened : (scenario : Scenario) → scenario_of options.datanodes text ≡ Ok scenario → AreEventsOf start threads scenario.steps (segments_from 1 scenario.parts) events
   pub is : p ≡ with_history options.history events (output_of start options text)
 
 -- ---- An image before the scenario.

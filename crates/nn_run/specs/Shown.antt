@@ -1,5 +1,5 @@
 -- What the outputs of the code print, what was written of them, and options. For private clauses.
-use Rattle.std.specs.Prelude.{◌≡◌, ◌⊎◌, ℕ, Bool, true, false, if◌then◌else◌, List, [], ◌++◌, length, Result, Ok}
+use Rattle.std.specs.Prelude.{◌≡◌, ◌⊎◌, ℕ, Bool, true, false, if◌then◌else◌, List, [], ◌++◌, flat_map, length, Result, Ok}
 use Rattle.nn_device.specs.Device.{Writer, Took}
 use Rattle.nn_model.specs.History.{History}
 use Rattle.nn_model.specs.Counts.{safe_mode_of}
@@ -9,11 +9,11 @@ use Rattle.nn_model.specs.Picture.{ShowsPicture}
 use Rattle.nn_model.specs.Stands.{StandbyState, tables_of}
 use Rattle.nn_segment.specs.LogEnd.{LogEnd, LogStop}
 use Rattle.nn_segment.specs.Segment.{Segment}
-use Rattle.nn_replicas.specs.Calls.{replica_at}
+use Rattle.nn_replicas.specs.Calls.{live_at, replica_at}
 use Rattle.nn_shadow.specs.Contents.{Shadow}
 use Rattle.nn_listing.specs.Listing.{listing_text}
 use Rattle.nn_listing.specs.Counted.{summary_seen}
-use Rattle.nn_listing.specs.Safety.{unsafe_text}
+use Rattle.nn_listing.specs.Safety.{unsafe_lines}
 use Rattle.nn_listing.specs.Summary.{summary_text}
 use Rattle.nn_listing.specs.Tables.{blocks_line, lines_of_orders, lines_of_replicas}
 use Rattle.nn_listing.specs.Trail.{history_text}
@@ -34,7 +34,7 @@ use Rattle.nn_run.specs.declared.ready.Ready.TheVariants as ready
 
 -- the lines of replicas, orders and counts that a standby holds
 abbrev pub held_tables : Shadow → List ℕ
-held_tables s = lines_of_replicas s.table ++ lines_of_orders s.table ++ blocks_line (safe_mode_of s.permille s.table.min s.namespace (replica_at s.table))
+held_tables s = lines_of_replicas s.table ++ lines_of_orders s.table ++ blocks_line (safe_mode_of (length s.numbers) s.permille s.table.min s.namespace (replica_at s.table))
 
 -- the history, where it is asked for
 abbrev pub history_part : Bool → History → List ℕ
@@ -47,7 +47,7 @@ summary_shown asked s = if asked then summary_text (summary_seen s) else []
 
 -- the lines of the blocks that keep its safe mode on, where they are asked for
 abbrev pub unsafe_shown : Bool → Shadow → List ℕ
-unsafe_shown asked s = if asked then unsafe_text s.table.min (replica_at s.table) s.namespace.rows else []
+unsafe_shown asked s = if asked then flat_map (λ line. line) (unsafe_lines s.table.min (live_at s.table) s.namespace.rows) else []
 
 -- the listing of a standby that has flushed, as it is asked for
 abbrev pub listed_text : Options → Shadow → List ℕ

@@ -1,5 +1,5 @@
 //! A run: from a reader's bytes to a writer's.
-ghost use Rattle.std.specs.Prelude.{◌≡◌, ◌≤◌, ◌^◌, ℕ, List, false, Ok, Err, IfOk, IfErr};
+ghost use Rattle.std.specs.Prelude.{◌≡◌, ◌≤◌, ◌^◌, ℕ, List, length, false, Ok, Err, IfOk, IfErr};
 ghost use Rattle.nn_model.specs.History.{History};
 ghost use Rattle.nn_model.specs.Lanes.{Lanes};
 ghost use Rattle.nn_model.specs.Namespace.{Namespace as Paths};
@@ -29,6 +29,8 @@ use std::io::{Read, Write};
 pub struct Options {
     /// When safe mode ends.
     pub settings: Settings,
+    /// How many DataNodes may report: numbered from 1, and a report of one above is refused.
+    pub datanodes: u16,
     /// Whether the standby's history is printed before the tables.
     pub history: bool,
     /// Whether what an operator reads of the standby is printed after the tables.
@@ -109,7 +111,7 @@ fn failure_of_halt(halt: BadInput) -> Result<RunFailure, AllocError>
 // The standby followed its log to the end. It flushes what it holds, and then its tables are told.
 fn output_of_standby(shadow: Shadow) -> Result<Output, AllocError>
     requires { shadow.phase ≡ serving }
-    ensures { IfOk result (λ o. (options : RunOptions) (past : History) (start : Paths) (base : ℕ) (txs : List Tx) (lanes : Lanes) → StandsBy start base txs lanes (with_past past (standby_of shadow))
+    ensures { IfOk result (λ o. (options : RunOptions) (past : History) (start : Paths) (base : ℕ) (txs : List Tx) (lanes : Lanes) → length shadow.numbers ≤ options.datanodes → StandsBy start base txs lanes (with_past past (standby_of shadow))
         → shown options o ≡ with_history options.history (flushed (standby_of shadow)).history (after_log (with_settings options shadow.permille shadow.table.min) lanes (Ok (record { last = shadow.last; namespace = shadow.namespace })))) }
 {
     let mut shadow = shadow;
@@ -124,7 +126,7 @@ fn output_of_standby(shadow: Shadow) -> Result<Output, AllocError>
 
 // The history, the listing, the tables and what more is asked for of a standby that has flushed.
 pub(crate) fn output_of_flushed(shadow: Shadow) -> Output
-    ensures { (options : RunOptions) (lanes : Lanes) → HasFlushed lanes (standby_of shadow)
+    ensures { (options : RunOptions) (lanes : Lanes) → length shadow.numbers ≤ options.datanodes → HasFlushed lanes (standby_of shadow)
         → shown options result ≡ with_history options.history shadow.history (after_log (with_settings options shadow.permille shadow.table.min) lanes (Ok (record { last = shadow.last; namespace = shadow.namespace }))) }
 {
     shadow.recall_invariant();

@@ -1,6 +1,5 @@
 //! A standby follows a log and the reports of DataNodes as their lines come.
 ghost use Rattle.std.specs.Prelude.{◌≡◌, ◌≤◌, ◌<◌, ◌^◌, ◌&&◌, nat_lt, ◌+◌, None, Some, length, IfOk, OnOk, MatchResult};
-ghost use Rattle.nn_types.specs.Limits.{max_datanodes};
 ghost use Rattle.nn_model.specs.Stands.{fresh};
 ghost use Rattle.nn_shadow.specs.Contents.{standby_of};
 ghost use Rattle.nn_run.specs.Following.{serving, without_events, stop_of, FollowsEdit, FollowsReport};
@@ -30,22 +29,21 @@ pub struct Follower {
 }
 
 impl Model for Follower {
-    ghost use Rattle.std.specs.Prelude.{◌≡◌, ◌≤◌, ℕ, None, length, option_map};
+    ghost use Rattle.std.specs.Prelude.{◌≡◌, ◌≤◌, ℕ, None, option_map};
     ghost use Rattle.nn_shadow.specs.Contents.{last_number_in};
-    ghost use Rattle.nn_types.specs.Limits.{max_datanodes};
     ghost use Rattle.nn_run.specs.Following.{Follower, serving, stop_of};
 
     ghost Value = { Follower };
 
     ghost view = { λ f. record { standby = f.shadow; messages = f.messages; stop = option_map stop_of f.stop } };
 
-    ghost invariant = { λ f. (f.stop ≡ None → (f.shadow.phase ≡ serving) × (length f.shadow.numbers ≡ max_datanodes)) × ((dn : ℕ) → last_number_in f.shadow.numbers dn ≤ f.messages) };
+    ghost invariant = { λ f. (f.stop ≡ None → f.shadow.phase ≡ serving) × ((dn : ℕ) → last_number_in f.shadow.numbers dn ≤ f.messages) };
 }
 
 impl Follower {
-    /// A standby that has followed nothing yet. It has a lane for each DataNode that there can be.
+    /// A standby that has followed nothing yet. It has a lane for each DataNode that may report.
     pub fn of(shadow: Shadow) -> Follower
-        requires serving { (shadow.phase ≡ serving) × (length shadow.numbers ≡ max_datanodes) }
+        requires serving { shadow.phase ≡ serving }
         requires fresh { standby_of shadow ≡ fresh shadow.namespace shadow.last }
         ensures { result ≡ record { standby = shadow; messages = 0; stop = None } }
     {
@@ -102,7 +100,7 @@ impl Follower {
 
     /// The next report of its DataNode. Where memory is refused the follower is to be discarded.
     pub fn follow_report(&mut self, report: &Report) -> Result<(), AllocError>
-        requires known { (1 ≤ report.now.dn) × (report.now.dn ≤ max_datanodes) }
+        requires known { (1 ≤ report.now.dn) × (report.now.dn ≤ length self.old.standby.numbers) }
         requires few { self.old.messages < 2 ^ 32 }
         ensures ok { OnOk result (FollowsReport report.now self.old self.new) }
         ensures messages { self.new.messages ≤ self.old.messages + 1 }

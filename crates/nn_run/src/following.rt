@@ -9,8 +9,7 @@ ghost use Rattle.nn_model.specs.Lanes.{no_messages};
 ghost use Rattle.nn_model.specs.Stands.{fresh};
 ghost use Rattle.nn_shadow.specs.Contents.{standby_of};
 ghost use Rattle.nn_shadow.specs.Laws.{StandsBy};
-ghost use Rattle.nn_run.specs.Following.{serving, line_count, Lived, IsLive, IsNew, IsReading, LinesComeTo};
-ghost use Rattle.nn_types.specs.Limits.{max_datanodes};
+ghost use Rattle.nn_run.specs.Following.{serving, datanodes_of, line_count, Lived, IsLive, IsNew, IsReading, LinesComeTo};
 
 use crate::follower::{Follower, LogFault};
 use nn_edits::{KeptTexts, Line};
@@ -48,11 +47,14 @@ impl Model for Following {
 }
 
 impl LineSink for Following {
-    ghost use Rattle.nn_run.specs.Following.{IsLive, line_count};
+    ghost use Rattle.std.specs.Prelude.{◌≡◌};
+    ghost use Rattle.nn_run.specs.Following.{IsLive, datanodes_of, line_count};
 
     ghost has_read = { IsLive };
 
     ghost count = { line_count };
+
+    ghost takes = { λ datanodes l. datanodes_of l ≡ datanodes };
 
     fn line(
         &mut self,
@@ -75,7 +77,7 @@ impl LineSink for Following {
 impl Following {
     /// No line has come to this standby, whose events are kept if its history is asked for.
     pub fn of(shadow: Shadow, history: bool) -> Following
-        requires serving { (shadow.phase ≡ serving) × (length shadow.numbers ≡ max_datanodes) }
+        requires serving { shadow.phase ≡ serving }
         requires fresh { standby_of shadow ≡ fresh shadow.namespace shadow.last }
         requires stands { StandsBy shadow.namespace shadow.last [] no_messages (standby_of shadow) }
         ensures new { IsNew shadow history result }
@@ -96,6 +98,7 @@ impl Following {
         requires few { line_count self.old < 2 ^ 32 }
         ensures live { OnOk result ((first : Lived) (x : Reading) → IsLive first x self.old → IsLive first (with_edit_line x (record { text = text.now; tx = tx.now })) self.new) }
         ensures count { line_count self.new ≤ line_count self.old + 1 }
+        ensures datanodes { OnOk result (datanodes_of self.new ≡ datanodes_of self.old) }
     {
         let begins = self.check.begins();
         self.check.push(text, tx);
@@ -105,10 +108,11 @@ impl Following {
     }
 
     fn report(&mut self, report: &Report) -> Result<(), AllocError>
-        requires known { (1 ≤ report.now.dn) × (report.now.dn ≤ max_datanodes) }
+        requires known { (1 ≤ report.now.dn) × (report.now.dn ≤ datanodes_of self.old) }
         requires few { line_count self.old < 2 ^ 32 }
         ensures live { OnOk result ((first : Lived) (x : Reading) → IsLive first x self.old → IsLive first (with_report_line x report.now) self.new) }
         ensures count { line_count self.new ≤ line_count self.old + 1 }
+        ensures datanodes { OnOk result (datanodes_of self.new ≡ datanodes_of self.old) }
     {
         self.follower.follow_report(report)?;
         self.forget();
@@ -120,6 +124,7 @@ impl Following {
         ensures live { (first : Lived) (x : Reading) → IsLive first x self.old → IsLive first x self.new }
         ensures forgets { self.old.history ≡ false → self.new.follower.standby.history ≡ [] }
         ensures count { line_count self.new ≡ line_count self.old }
+        ensures datanodes { datanodes_of self.new ≡ datanodes_of self.old }
     {
         if !self.history {
             self.follower.forget_history();
@@ -129,7 +134,7 @@ impl Following {
     /// The standby at the end of all lines, or why there is none.
     fn end(self) -> Result<Shadow, BadInput>
         requires { line_count self < 2 ^ 62 }
-        ensures ends { (first : Lived) (text : List ℕ) (x : Reading) → IsLive first x self → IsReading text x → LinesComeTo first text result }
+        ensures ends { (first : Lived) (text : List ℕ) (x : Reading) → IsLive first x self → IsReading (datanodes_of first) text x → LinesComeTo first text result }
         ensures serving { IfOk result (λ standby. standby.phase ≡ serving) }
     {
         let Following {
@@ -150,7 +155,7 @@ impl Following {
 /// What a scenario comes to whose lines this has taken, up to the first that is refused: the standby at its end, or why there is none.
 pub fn end_of_lines(bad: Option<ScenarioFault>, following: Following) -> Result<Shadow, BadInput>
     requires { line_count following < 2 ^ 62 }
-    ensures ends { (first : Lived) (text : List ℕ) → IsReadBy IsLive first text (sink_unless bad following) → LinesComeTo first text result }
+    ensures ends { (first : Lived) (text : List ℕ) → IsReadBy (datanodes_of first) IsLive first text (sink_unless bad following) → LinesComeTo first text result }
     ensures serving { IfOk result (λ standby. standby.phase ≡ serving) }
 {
     match bad {

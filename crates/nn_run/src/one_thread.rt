@@ -5,7 +5,7 @@ ghost use Rattle.nn_input.specs.Cut.{IsFresh, ahead};
 ghost use Rattle.nn_scenario.specs.Follow.{CameWithin, IsLeftUnread};
 ghost use Rattle.nn_scenario.specs.Reading.{nothing_read};
 ghost use Rattle.nn_run.specs.Ends.{BeginsAt, EndsFrom, IsRunOf};
-ghost use Rattle.nn_run.specs.Following.{IsLive, line_count, serving};
+ghost use Rattle.nn_run.specs.Following.{IsLive, datanodes_of, line_count, serving};
 ghost use Rattle.nn_run.specs.Input.{start_of, IsReadOfAll, IsUnread};
 ghost use Rattle.nn_types.specs.Limits.{max_input};
 
@@ -17,7 +17,6 @@ use nn_image::{FrontImage, ImageFault, load_front};
 use nn_input::{InputFault, Lines};
 use nn_scenario::{follow_lines, pass_to_end};
 use nn_shadow::Shadow;
-use nn_types::limits::MAX_DATANODES;
 use std::alloc::{AllocError, Global};
 use std::io::Read;
 
@@ -70,7 +69,7 @@ fn follow_from<R: Read>(
     ensures why { IfErr result (IsLeftUnread max_input (ahead lines.old) input.old input.new) }
 {
     let mut following = following_from(alloc, options, begin)?;
-    let bad = follow_lines(alloc, lines, input, &mut following)?;
+    let bad = follow_lines(alloc, options.datanodes, lines, input, &mut following)?;
     Ok(end_of_lines(bad, following))
 }
 
@@ -79,10 +78,12 @@ fn following_from(alloc: Global, options: &Options, begin: Begin) -> Result<Foll
     ensures begins { IfOk result (BeginsAt options.now (start_of begin)) }
     ensures live { IfOk result (λ live. IsLive live nothing_read live) }
     ensures count { IfOk result (λ live. line_count live ≡ 0) }
+    ensures datanodes { IfOk result (λ live. datanodes_of live ≡ options.now.datanodes) }
 {
     let Begin { namespace, txid } = begin;
-    // One lane for each DataNode that there can be.
-    let Ok(shadow) = Shadow::from(alloc, namespace, txid, MAX_DATANODES, options.settings) else {
+    // One lane for each DataNode that may report.
+    let Ok(shadow) = Shadow::from(alloc, namespace, txid, options.datanodes, options.settings)
+    else {
         return Err(AllocError);
     };
     Ok(Following::of(shadow, options.history))

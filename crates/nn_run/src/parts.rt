@@ -28,25 +28,26 @@ pub(crate) struct InputParts {
 /// are read at most.
 pub(crate) fn read_parts<R: Read>(
     alloc: Global,
+    datanodes: u16,
     from_image: bool,
     input: &mut Reader<R>,
 ) -> Result<InputParts, InputFault>
-    ensures whole { IfOk result (λ r. IsReadOfAll from_image (λ input. IsRead from_image input r) input.old input.new) }
+    ensures whole { IfOk result (λ r. IsReadOfAll from_image (λ input. IsRead datanodes from_image input r) input.old input.new) }
     ensures end { OnOk result (IsAtEnd input.new.left) }
-    ensures lawful { IfOk result (λ r. IfOk r.lines (λ s. IsLawfulScenario (scenario_of_read s))) }
+    ensures lawful { IfOk result (λ r. IfOk r.lines (λ s. IsLawfulScenario datanodes (scenario_of_read s))) }
     ensures none_failed { OnOk result (input.new.failed ≡ input.old.failed) }
     ensures why { IfErr result (IsUnread from_image input.old input.new) }
 {
     let mut lines = Lines::new(alloc)?;
     if !from_image {
-        let lines = read_lines(alloc, &mut lines, input)?;
+        let lines = read_lines(alloc, datanodes, &mut lines, input)?;
         let loaded = None;
         return Ok(InputParts { loaded, lines });
     }
     match load_front(alloc, &mut lines, input)? {
         FrontImage::Missing => Ok(without_lines(alloc, None)?),
         FrontImage::Torn(fault) => Ok(without_lines(alloc, Some(Err(fault)))?),
-        FrontImage::Ended(loaded) => match read_lines(alloc, &mut lines, input) {
+        FrontImage::Ended(loaded) => match read_lines(alloc, datanodes, &mut lines, input) {
             Ok(lines) => {
                 let loaded = Some(loaded);
                 Ok(InputParts { loaded, lines })
@@ -59,17 +60,18 @@ pub(crate) fn read_parts<R: Read>(
 // Reads the lines of a scenario to the reader's end.
 fn read_lines<R: Read>(
     alloc: Global,
+    datanodes: u16,
     lines: &mut Lines,
     input: &mut Reader<R>,
 ) -> Result<Result<Scenario, ScenarioFault>, InputFault>
     requires fresh { IsFresh lines.old }
     ensures read { IfOk result (λ r. (bytes : List ℕ) × CameWithin max_input (ahead lines.old) input.old input.new bytes
-        × IsScenarioOf (ahead lines.old ++ bytes) r) }
+        × IsScenarioOf datanodes (ahead lines.old ++ bytes) r) }
     ensures end { OnOk result (IsAtEnd input.new.left) }
     ensures why { IfErr result (IsLeftUnread max_input (ahead lines.old) input.old input.new) }
 {
     let mut reading = Reading::new(alloc)?;
-    match follow_lines(alloc, lines, input, &mut reading)? {
+    match follow_lines(alloc, datanodes, lines, input, &mut reading)? {
         Some(bad) => Ok(Err(bad)),
         None => Ok(scenario_of(Ok(reading))),
     }
@@ -78,7 +80,7 @@ fn read_lines<R: Read>(
 // The parts of an input that ends before a scenario.
 fn without_lines(alloc: Global, loaded: Option<Loaded>) -> Result<InputParts, AllocError>
     ensures loaded { IfOk result (λ r. r.loaded ≡ loaded) }
-    ensures none { IfOk result (λ r. IsScenarioOf [] r.lines) }
+    ensures none { IfOk result (λ r. (datanodes : ℕ) → IsScenarioOf datanodes [] r.lines) }
 {
     let reading = Reading::new(alloc)?;
     let lines = scenario_of(Ok(reading));

@@ -247,7 +247,7 @@ fn output_of_drive<G: Gate + Send + Sync + Drop, R: Threads + Wait + Sync>(
     segments: Vec<Parsed>,
 ) -> Result<Output, AllocError>
     requires capacity { (1 ≤ asked.now.capacity) × (asked.now.capacity ≤ max_capacity) }
-    requires datanodes { (1 ≤ datanodes) × (datanodes ≤ max_datanodes) }
+    requires datanodes { (1 ≤ datanodes) × (datanodes ≤ asked.now.options.datanodes) }
     requires in_turn { AreNextMessages no_messages steps }
     requires within { All (IsStepOf datanodes) steps }
     ensures { IfOk result (λ o. IsToldOf (start_of begin) true asked.now.options steps (Ok segments.items) (shown asked.now.options o)) }
@@ -269,7 +269,8 @@ fn output_of_threads<G: Gate + Send + Sync + Drop, R: Threads + Wait + Sync>(
     scenario: Scenario,
 ) -> Result<Output, AllocError>
     requires capacity { (1 ≤ asked.now.capacity) × (asked.now.capacity ≤ max_capacity) }
-    requires lawful { IsLawfulScenario (scenario_of_read scenario) }
+    requires some { 1 ≤ asked.now.options.datanodes }
+    requires lawful { IsLawfulScenario asked.now.options.datanodes (scenario_of_read scenario) }
     ensures { IfOk result (λ o. IsToldOf (start_of begin) true asked.now.options scenario.steps (segments_from 1 scenario.parts.items) (shown asked.now.options o)) }
 {
     let Scenario {
@@ -293,8 +294,9 @@ fn output_by_threads<G: Gate + Send + Sync + Drop, R: Threads + Wait + Sync>(
     lines: Result<Scenario, ScenarioFault>,
 ) -> Result<Output, AllocError>
     requires capacity { (1 ≤ asked.now.capacity) × (asked.now.capacity ≤ max_capacity) }
-    requires lawful { IfOk lines (λ s. IsLawfulScenario (scenario_of_read s)) }
-    ensures { (text : List ℕ) → IsScenarioOf text lines → IfOk result (λ o. IsPrintedFrom (start_of begin) true asked.now.options text (shown asked.now.options o)) }
+    requires some { 1 ≤ asked.now.options.datanodes }
+    requires lawful { IfOk lines (λ s. IsLawfulScenario asked.now.options.datanodes (scenario_of_read s)) }
+    ensures { (text : List ℕ) → IsScenarioOf asked.now.options.datanodes text lines → IfOk result (λ o. IsPrintedFrom (start_of begin) true asked.now.options text (shown asked.now.options o)) }
 {
     match lines {
         Ok(scenario) => output_of_threads(rt, alloc, asked, begin, scenario),
@@ -310,8 +312,9 @@ fn parts_by_threads<G: Gate + Send + Sync + Drop, R: Threads + Wait + Sync>(
     parts: InputParts,
 ) -> Result<Output, AllocError>
     requires capacity { (1 ≤ asked.now.capacity) × (asked.now.capacity ≤ max_capacity) }
-    requires lawful { IfOk parts.lines (λ s. IsLawfulScenario (scenario_of_read s)) }
-    ensures { (input : List ℕ) → IsRead asked.now.options.from_image input parts → IfOk result (λ o. IsPrinted true asked.now.options input (shown asked.now.options o)) }
+    requires some { 1 ≤ asked.now.options.datanodes }
+    requires lawful { IfOk parts.lines (λ s. IsLawfulScenario asked.now.options.datanodes (scenario_of_read s)) }
+    ensures { (input : List ℕ) → IsRead asked.now.options.datanodes asked.now.options.from_image input parts → IfOk result (λ o. IsPrinted true asked.now.options input (shown asked.now.options o)) }
 {
     let InputParts { loaded, lines } = parts;
     match start_from(alloc, asked.options.from_image, loaded) {
@@ -332,7 +335,8 @@ pub fn run_threads<I: Read, W: Write, G: Gate + Send + Sync + Drop, R: Threads +
     input: &mut Reader<I>,
     writer: &mut Writer<W>,
 ) -> Result<RunEnd, RunFault>
-    requires { (1 ≤ asked.now.capacity) × (asked.now.capacity ≤ max_capacity) }
+    requires capacity { (1 ≤ asked.now.capacity) × (asked.now.capacity ≤ max_capacity) }
+    requires datanodes { 1 ≤ asked.now.options.datanodes }
     ensures written { IfOk result (λ end. WroteOutput
         (running asked.now.options true input.old input.new)
         writer.old writer.new end.status (error_of end.fault)) }
@@ -341,7 +345,12 @@ pub fn run_threads<I: Read, W: Write, G: Gate + Send + Sync + Drop, R: Threads +
         writer.old writer.new) }
     ensures reads { input.new.reads ≤ 2 ^ 24 }
 {
-    let read = read_parts(alloc, asked.options.from_image, input);
+    let read = read_parts(
+        alloc,
+        asked.options.datanodes,
+        asked.options.from_image,
+        input,
+    );
     // A reader counts its reads, and is given up before there are more.
     input.reads();
     let parts = match read {

@@ -50,8 +50,8 @@ pub fn read_edit(alloc: Global, scratch: &mut Scratch, line: &[u8]) -> Result<Tx
 
 /// The report of a line, such as `{"block":1073741825,"dn":1,"gen":1001,"kind":"received","len":5}`.
 ///
-/// The keys may come in any order, and there may be others. A DataNode above `datanodes` is a bad number. Time and memory are of
-/// the order of the line's length.
+/// The keys may come in any order, and there may be others. The DataNode is from 1 to `datanodes`, else it is a bad number. Time
+/// and memory are of the order of the line's length.
 pub fn read_report(
     alloc: Global,
     scratch: &mut Scratch,

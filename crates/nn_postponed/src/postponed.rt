@@ -44,8 +44,8 @@ const LIMIT: usize = 9223372036854775807;
 
 /// The messages that wait.
 ///
-/// Each block about which messages wait has a queue of its own. The queues stand in chunks, by ascending block, with up to
-/// three messages of each; only the fourth one takes memory for its queue alone. A call takes O(log blocks + log messages of
+/// Each block about which messages wait has a queue of its own, in a box that has room for three messages. The boxes stand in
+/// chunks, by ascending block. A call takes O(log blocks + log messages of
 /// the block), in the mean over all calls where it holds a message: from time to time a queue makes more places, or its
 /// messages close up. A queue that comes or goes moves those behind it in its chunk, 64 at most, and sometimes chunks. A
 /// queue that has become empty leaves the map.
@@ -136,7 +136,9 @@ impl Postponed {
         let Some(queue) = self.queues.get_mut(&message.block) else {
             // Recalls to the prover that a block id keeps its limits.
             let _recalled = message.block.get();
-            let mut queue = Queue::new();
+            let Ok(mut queue) = Queue::new(self.alloc) else {
+                return Err(AllocError);
+            };
             let Ok(()) = queue.push(self.alloc, message) else {
                 return Err(AllocError);
             };

@@ -63,7 +63,7 @@ added : (c : goal.In-Ok-insert) → Now c.insert.new.self (queued c.args.message
 added c = added_now c.self.inside.queues c.insert.new.self c.args.message.now c.push.new.self (good_of c.self.inside.queues c.self.invariant.0 c.self.invariant.1)
     c.insert.ensures.ordered
     c.in-Ok-insert.ensures.updates
-    (sym (ap option_copied_mut c.in_default-get_mut.is) ∙ c.get_mut.ensures.value) c.get-recalled.ensures.limit (c.in-Ok-push.ensures.ok ∙ ap (λ l. l ++ c.args.message.now ∷ []) c.new-queue.ensures)
+    (sym (ap option_copied_mut c.in_default-get_mut.is) ∙ c.get_mut.ensures.value) c.get-recalled.ensures.limit (c.in-Ok-push.ensures.ok ∙ ap (λ l. l ++ c.args.message.now ∷ []) c.in-Ok-new.ensures)
 
 pub invariant_of-self-in_default-get_mut : goal.invariant_of-self-in_default-get_mut
 invariant_of-self-in_default-get_mut c =

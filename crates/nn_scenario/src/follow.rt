@@ -23,10 +23,9 @@ use std::marker::Model;
 pub const MAX_KEPT: usize = MAX_LINE_LEN + 1;
 
 /// Reads a scenario to the reader's end, and hands each line to the sink as soon as it has ended, up to the first that is
-/// refused: that line is the answer. A report is of a DataNode from 1 to `datanodes`, or is refused. Behind a line that is, the
-/// input is read on, since one that can't be read is told first. The last line may lack its line feed. No line is kept behind its
-/// end, and of one that is too long 65,537 bytes at most. After a fault of the input discard the sink too: nothing is said of how
-/// far it came.
+/// refused: that line is the answer. A report of a DataNode above `datanodes` is refused. Behind a refused line the input is read
+/// on, since one that can't be read is told first. The last line may lack its line feed. No line is kept behind its end, and of one
+/// that is too long 65,537 bytes at most. After a fault of the input discard the sink too: nothing is said of how far it came.
 pub fn follow_lines<R: Read, S: LineSink>(
     alloc: Global,
     datanodes: u16,

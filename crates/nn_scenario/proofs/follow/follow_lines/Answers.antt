@@ -1,4 +1,4 @@
-use Rattle.std.proofs.Common.{arith, ◌++◌, List, ℕ, ap, sym, subst, ◌∙◌}
+use Rattle.std.proofs.Common.{arith, ◌++◌, ap, sym, subst, ◌∙◌}
 use Rattle.nn_input.specs.Cut.{ahead}
 use Rattle.nn_types.specs.Limits.{max_input}
 use Rattle.nn_scenario.specs.Follow.{LineReader, LinesRead, LinesReadOn, sink_unless}

@@ -106,7 +106,9 @@ pub fn read_line_into(
     ensures exact { LineGives result (either_of_line datanodes line.now) }
     ensures lawful { IfOk result (IsLawfulLine datanodes) }
 {
-    either_of_line(alloc, scratch, datanodes, texts, line, printable)
+    let mut fields = Fields::none();
+    fields_in(alloc, scratch, line, printable, &mut fields)?;
+    either_in(alloc, datanodes, texts, &mut fields)
 }
 
 fn edit_of_line(alloc: Global, scratch: &mut Scratch, line: &[u8]) -> Result<Tx, LineFault>
@@ -129,22 +131,6 @@ fn report_of_line(
     let mut fields = Fields::none();
     fields_in(alloc, scratch, line, 0, &mut fields)?;
     report_in(datanodes, &fields)
-}
-
-fn either_of_line(
-    alloc: Global,
-    scratch: &mut Scratch,
-    datanodes: u16,
-    texts: &mut KeptTexts,
-    line: &[u8],
-    printable: usize,
-) -> Result<Line, LineFault>
-    requires { IsPrintableTo printable line.now }
-    ensures { LineGives result (either_of_line datanodes line.now) }
-{
-    let mut fields = Fields::none();
-    fields_in(alloc, scratch, line, printable, &mut fields)?;
-    either_in(alloc, datanodes, texts, &mut fields)
 }
 
 #[tactic(auto, unfolding(crate::specs::Parts::either_from))]

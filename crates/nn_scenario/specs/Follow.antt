@@ -36,12 +36,19 @@ sink_unless (Some bad) s = Err bad
 
 -- ---- For private clauses.
 
+-- how many DataNodes report, and how many lines have ended
+pub record LineReader : Type 0 where
+  pub datanodes : ℕ
+  pub ended : ℕ
+
 -- the scenario of these lines and of others behind them is what was read, and the others; so many DataNodes report
 abbrev pub KeepsLines : ℕ → List (List ℕ) → Reading → Type 0
-KeepsLines datanodes lines x = (more : List (List ℕ)) → scenario_from (lines_from datanodes 1 (lines ++ more)) ≡ follow x (lines_from datanodes (length lines + 1) more)
+KeepsLines datanodes lines x =
+    (more : List (List ℕ)) → scenario_from (lines_from datanodes 1 (lines ++ more)) ≡ follow x (lines_from datanodes (length lines + 1) more)
 
 -- of a text so many lines have ended, and a sink that was this first has read them
-pub record LinesRead {S : Type 0} (datanodes : ℕ) (has_read : S → Reading → S → Type 0) (first : S) (text : List ℕ) (ended : ℕ) (l : Lines) (s : S) : Type 0 where
+pub record LinesRead {S : Type 0} (datanodes : ℕ) (has_read : S → Reading → S → Type 0) (first : S) (text : List ℕ) (ended : ℕ) (l : Lines) (s : S)
+    : Type 0 where
   pub lines : List (List ℕ)
   pub come : HasCome (max_line + 1) text lines l
   pub count : ended ≡ length lines

@@ -38,4 +38,5 @@ followed_by_line x (report r) = with_report_line x r
 
 -- what was read before a line of this text and behind it, where so many DataNodes report: a blank line says nothing
 abbrev pub IsFollowed : ℕ → List ℕ → Reading → Reading → Type 0
-IsFollowed datanodes text x next = MatchBool (is_blank text) (next ≡ x) ((line : Line) × (either_of_line datanodes text ≡ Ok line) × (next ≡ followed_by_line x (line_as text line)))
+IsFollowed datanodes text x next =
+    MatchBool (is_blank text) (next ≡ x) ((line : Line) × (either_of_line datanodes text ≡ Ok line) × (next ≡ followed_by_line x (line_as text line)))

@@ -100,7 +100,8 @@ scenario_of_read s = record { parts = s.parts.items; steps = s.steps; datanodes 
 
 -- the messages of the steps are those of the text's lines: of each DataNode its reports, numbered from 1
 abbrev pub HasMessagesOf : ℕ → List ℕ → Scenario → Type 0
-HasMessagesOf datanodes text s = (lines : List ScenarioLine) × (scenario_lines datanodes text ≡ Ok lines) × ((dn : ℕ) → lanes_of_steps s.steps dn ≡ messages_of lines dn)
+HasMessagesOf datanodes text s =
+    (lines : List ScenarioLine) × (scenario_lines datanodes text ≡ Ok lines) × ((dn : ℕ) → lanes_of_steps s.steps dn ≡ messages_of lines dn)
 
 -- What every scenario is: it has an edit for each transaction of its parts, each message is the next one of its DataNode, the messages are lanes, and
 -- they are of DataNodes from 1 to the number of those that report, at most.

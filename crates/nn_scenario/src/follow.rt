@@ -23,10 +23,9 @@ use std::marker::Model;
 pub const MAX_KEPT: usize = MAX_LINE_LEN + 1;
 
 /// Reads a scenario to the reader's end, and hands each line to the sink as soon as it has ended, up to the first that is
-/// refused: that line is the answer. A report is of a DataNode from 1 to `datanodes`, or is refused. Behind a line that is, the
-/// input is read on, since one that can't be read is told first. The last line may lack its line feed. No line is kept behind its
-/// end, and of one that is too long 65,537 bytes at most. After a fault of the input discard the sink too: nothing is said of how
-/// far it came.
+/// refused: that line is the answer. A report of a DataNode above `datanodes` is refused. Behind a refused line the input is read
+/// on, since one that can't be read is told first. The last line may lack its line feed. No line is kept behind its end, and of one
+/// that is too long 65,537 bytes at most. After a fault of the input discard the sink too: nothing is said of how far it came.
 pub fn follow_lines<R: Read, S: LineSink>(
     alloc: Global,
     datanodes: u16,
@@ -46,10 +45,10 @@ pub fn follow_lines<R: Read, S: LineSink>(
     ensures few { input.new.given ≤ input.old.given + (max_input + 2 ^ 16) }
     ensures count { S.count sink.new ≤ max_input + 1 }
 {
-    let mut reader = LineReader::new(alloc);
+    let mut reader = LineReader::new(alloc, datanodes);
     let mut room = MAX_INPUT - lines.left();
     'reads: loop {
-        let Ok(bad) = reader.take_lines(datanodes, sink, lines) else {
+        let Ok(bad) = reader.take_lines(sink, lines) else {
             return Err(InputFault::OutOfMemory);
         };
         if let Some(bad) = bad {
@@ -63,7 +62,7 @@ pub fn follow_lines<R: Read, S: LineSink>(
             Err(fault) => return Err(fault),
         };
         if !more {
-            return Ok(reader.take_last(datanodes, sink, lines));
+            return Ok(reader.take_last(sink, lines));
         }
     }
 }
@@ -86,26 +85,29 @@ pub fn pass_to_end<R: Read>(lines: &mut Lines, input: &mut Reader<R>) -> Result<
 #[derive(Drop)]
 pub(crate) struct LineReader {
     alloc: Global,
+    // how many DataNodes report
+    datanodes: u16,
     scratch: Scratch,
     texts: KeptTexts,
     ended: u64,
 }
 
 impl Model for LineReader {
-    ghost use Rattle.std.specs.Prelude.{ℕ};
+    ghost use Rattle.nn_scenario.specs.Follow.{LineReader};
 
-    ghost Value = { ℕ };
+    ghost Value = { LineReader };
 
-    ghost view = { λ r. r.ended };
+    ghost view = { λ r. record { datanodes = r.datanodes; ended = r.ended } };
 }
 
 impl LineReader {
-    /// No line has ended.
-    pub(crate) fn new(alloc: Global) -> LineReader
-        ensures { result ≡ 0 }
+    /// No line has ended. A report is of a DataNode from 1 to `datanodes`.
+    pub(crate) fn new(alloc: Global, datanodes: u16) -> LineReader
+        ensures { result ≡ record { datanodes = datanodes; ended = 0 } }
     {
         LineReader {
             alloc,
+            datanodes,
             scratch: Scratch::new(alloc),
             texts: KeptTexts::new(alloc),
             ended: 0,
@@ -115,21 +117,22 @@ impl LineReader {
     // Takes each line that ends in what was read, up to the first that is refused.
     fn take_lines<S: LineSink>(
         &mut self,
-        datanodes: u16,
         sink: &mut S,
         lines: &mut Lines,
     ) -> Result<Option<ScenarioFault>, AllocError>
-        requires come { (first : S) × (text : List ℕ) × LinesRead datanodes S.has_read first text self.old lines.old sink.old }
-        requires few { self.old + length (ahead lines.old) ≤ max_input }
-        requires count { S.count sink.old ≤ self.old }
-        requires takes { S.takes datanodes sink.old }
-        ensures read { IfOk result (λ bad. bad ≡ None → LinesReadOn datanodes S.has_read self.old lines.old sink.old self.new lines.new sink.new) }
+        requires come { (first : S) × (text : List ℕ) × LinesRead self.old.datanodes S.has_read first text self.old.ended lines.old sink.old }
+        requires few { self.old.ended + length (ahead lines.old) ≤ max_input }
+        requires count { S.count sink.old ≤ self.old.ended }
+        requires takes { S.takes self.old.datanodes sink.old }
+        ensures read { IfOk result (λ bad. bad ≡ None
+            → LinesReadOn self.old.datanodes S.has_read self.old.ended lines.old sink.old self.new.ended lines.new sink.new) }
         ensures all { IfOk result (λ bad. bad ≡ None → ahead lines.new ≡ []) }
         ensures bad { IfOk result (λ bad. IfSome bad (λ e. (first : S) (text : List ℕ)
-            → LinesRead datanodes S.has_read first text self.old lines.old sink.old → IsRefusedLine datanodes text e)) }
-        ensures few { self.new ≤ max_input }
-        ensures count { S.count sink.new ≤ self.new }
-        ensures takes { IfOk result (λ bad. bad ≡ None → S.takes datanodes sink.new) }
+            → LinesRead self.old.datanodes S.has_read first text self.old.ended lines.old sink.old → IsRefusedLine self.old.datanodes text e)) }
+        ensures few { self.new.ended ≤ max_input }
+        ensures count { S.count sink.new ≤ self.new.ended }
+        ensures takes { IfOk result (λ bad. bad ≡ None → S.takes self.old.datanodes sink.new) }
+        ensures same { self.new.datanodes ≡ self.old.datanodes }
     {
         'cuts: loop {
             let Ok(found) = lines.cut(MAX_KEPT) else {
@@ -139,7 +142,6 @@ impl LineReader {
                 return Ok(None);
             };
             if let Err(bad) = self.take(
-                datanodes,
                 sink,
                 lines.text(place),
                 lines.is_blank(place),
@@ -151,22 +153,17 @@ impl LineReader {
     }
 
     // The bytes behind the last line feed, once all that was read is cut, are a line too. The answer is why it is refused.
-    fn take_last<S: LineSink>(
-        &mut self,
-        datanodes: u16,
-        sink: &mut S,
-        lines: &Lines,
-    ) -> Option<ScenarioFault>
-        requires come { (first : S) × (text : List ℕ) × LinesRead datanodes S.has_read first text self.old lines.now sink.old }
+    fn take_last<S: LineSink>(&mut self, sink: &mut S, lines: &Lines) -> Option<ScenarioFault>
+        requires come { (first : S) × (text : List ℕ) × LinesRead self.old.datanodes S.has_read first text self.old.ended lines.now sink.old }
         requires all { ahead lines.now ≡ [] }
-        requires few { self.old ≤ max_input }
-        requires count { S.count sink.old ≤ self.old }
-        requires takes { S.takes datanodes sink.old }
-        ensures read { (first : S) (text : List ℕ) → LinesRead datanodes S.has_read first text self.old lines.now sink.old
-            → IsReadBy datanodes S.has_read first text (sink_unless result sink.new) }
-        ensures count { S.count sink.new ≤ self.old + 1 }
+        requires few { self.old.ended ≤ max_input }
+        requires count { S.count sink.old ≤ self.old.ended }
+        requires takes { S.takes self.old.datanodes sink.old }
+        ensures read { (first : S) (text : List ℕ) → LinesRead self.old.datanodes S.has_read first text self.old.ended lines.now sink.old
+            → IsReadBy self.old.datanodes S.has_read first text (sink_unless result sink.new) }
+        ensures count { S.count sink.new ≤ self.old.ended + 1 }
     {
-        match self.take(datanodes, sink, lines.torn(), lines.is_torn_blank(), 0) {
+        match self.take(sink, lines.torn(), lines.is_torn_blank(), 0) {
             Ok(()) => None,
             Err(bad) => Some(bad),
         }
@@ -175,7 +172,6 @@ impl LineReader {
     /// Reads the next line, and hands it to the sink unless it is blank. So many of its first bytes are known to be printable.
     pub(crate) fn take<S: LineSink>(
         &mut self,
-        datanodes: u16,
         sink: &mut S,
         text: &[u8],
         blank: bool,
@@ -183,14 +179,15 @@ impl LineReader {
     ) -> Result<(), ScenarioFault>
         requires printable { IsPrintableTo printable text.now }
         requires line { (line : List ℕ) × (is_unbroken line ≡ true) × IsLineText line text.now blank }
-        requires few { self.old ≤ max_input }
-        requires count { S.count sink.old ≤ self.old }
-        requires takes { S.takes datanodes sink.old }
-        ensures ok { OnOk result ((line : List ℕ) → IsLineText line text.now blank → Hands datanodes S.has_read line sink.old sink.new) }
-        ensures bad { IfErr result (λ e. (line : List ℕ) → IsLineText line text.now blank → IsRefusedAs datanodes line self.new e) }
-        ensures ended { self.new ≡ self.old + 1 }
-        ensures count { S.count sink.new ≤ self.new }
-        ensures takes { OnOk result (S.takes datanodes sink.new) }
+        requires few { self.old.ended ≤ max_input }
+        requires count { S.count sink.old ≤ self.old.ended }
+        requires takes { S.takes self.old.datanodes sink.old }
+        ensures ok { OnOk result ((line : List ℕ) → IsLineText line text.now blank → Hands self.old.datanodes S.has_read line sink.old sink.new) }
+        ensures bad { IfErr result (λ e. (line : List ℕ) → IsLineText line text.now blank → IsRefusedAs self.old.datanodes line self.new.ended e) }
+        ensures ended { self.new.ended ≡ self.old.ended + 1 }
+        ensures same { self.new.datanodes ≡ self.old.datanodes }
+        ensures count { S.count sink.new ≤ self.new.ended }
+        ensures takes { OnOk result (S.takes self.old.datanodes sink.new) }
     {
         self.ended += 1;
         let line = self.ended;
@@ -200,7 +197,7 @@ impl LineReader {
         let read = match read_line_into(
             self.alloc,
             &mut self.scratch,
-            datanodes,
+            self.datanodes,
             &mut self.texts,
             text,
             printable,

@@ -53,12 +53,12 @@ pub fn read_lines(alloc: Global, datanodes: u16, input: &[u8]) -> Result<Scenari
     ensures bad { IfErr result (λ e. e.fault ≢ LineFault.OutOfMemory → scenario_of datanodes input.now ≡ Err e) }
 {
     let mut reading = Reading::new(alloc);
-    let mut reader = LineReader::new(alloc);
+    let mut reader = LineReader::new(alloc, datanodes);
     let mut rest = input;
     'lines: loop {
         let end = line_end(rest);
         let line = &rest[..end];
-        if let Err(bad) = reader.take(datanodes, &mut reading, line, is_blank(line), 0) {
+        if let Err(bad) = reader.take(&mut reading, line, is_blank(line), 0) {
             return Err(bad);
         }
         if end == rest.len() {

@@ -6,7 +6,7 @@ use Rattle.std.proofs.lemmas.List.{take-append-drop, take_all, drop_all, drop-dr
 use Rattle.std.proofs.lemmas.List.Elements.{All-nil, All-cons, All-head, All-tail, All-set, All-append, All-take, All-drop}
 use Rattle.std.specs.Global.{Vec}
 use Rattle.std.proofs.lemmas.Option.{slice_get_read, get_or_from_slice_get}
-use Rattle.nn_sorted.specs.Chunks.{flat, before, after, AreFilled, HasEntries, IsCut}
+use Rattle.nn_sorted.specs.Chunks.{flat, before, after, AreFilled, HasEntries, IsCut, IsSamePlace}
 use Rattle.nn_sorted.proofs.Places.{joined, entry_in, after_here}
 
 module _ {X : Type 0} where
@@ -107,26 +107,27 @@ module _ {X : Type 0} where
   put_err (Ok u) cs c p e x y l at h = tt
   put_err (Err u) cs c p e x y l at h = flat_same cs c y (at_chunk (λ z. y.items ≡ z.items) cs c x (slice_get_read cs (length cs) c x refl l at) h)
 
-  -- behind the end of the last chunk
-  pub added_at_end : {U E : Type 0} (r : Result U E) (cs ds : List (Vec X)) (c p : ℕ) (e : X) (x : Vec X) → c + 1 ≡ length cs → x ≡ get_or cs c x → p ≡ length x.items → OnOk r (flat ds ≡ flat cs ++ e ∷ []) → OnOk r (flat ds ≡ before cs c p ++ e ∷ after cs c p)
-  added_at_end (Ok u) cs ds c p e x l at n h =
-      let t = at_end cs c p l (at_chunk (λ z. p ≡ length z.items) cs c x (slice_get_read cs (length cs) c x refl (omega (arith, l)) at) n) in
-      h ∙ (λ i. sym t.0 i ++ e ∷ sym t.1 i)
-  added_at_end (Err u) cs ds c p e x l at n h = tt
-
   -- behind the last chunk stands nothing
   pub past_end : (cs : List (Vec X)) (c p : ℕ) → c ≡ length cs → (before cs c p ≡ flat cs) × (after cs c p ≡ [])
   past_end [] c p l = (refl, refl)
   past_end (x ∷ cs) zero p l = absurd (omega arith)
   past_end (x ∷ cs) (suc c) p l = let t = past_end cs c p (omega arith) in (ap (λ l. x.items ++ l) t.0, t.1)
 
-  pub added_past_end : {U E : Type 0} (r : Result U E) (cs ds : List (Vec X)) (c p : ℕ) (e : X) → c ≡ length cs → OnOk r (flat ds ≡ flat cs ++ e ∷ []) → OnOk r (flat ds ≡ before cs c p ++ e ∷ after cs c p)
-  added_past_end (Ok u) cs ds c p e l h = let t = past_end cs c p l in h ∙ (λ i. sym t.0 i ++ e ∷ sym t.1 i)
-  added_past_end (Err u) cs ds c p e l h = tt
+  -- nor behind the end of the last chunk
+  pub at_last_end : (cs : List (Vec X)) (c p : ℕ) (x : Vec X) → c + 1 ≡ length cs → slice_get cs c ≡ Some x → p ≡ length x.items → (before cs c p ≡ flat cs) × (after cs c p ≡ [])
+  at_last_end cs c p x l at n = at_end cs c p l (at_chunk (λ z. p ≡ length z.items) cs c x at n)
 
-  -- a chunk that was cut has the entries that it had
-  pub flat_cut : (cs ds : List (Vec X)) (c n : ℕ) → IsCut cs c n ds → flat ds ≡ flat cs
-  flat_cut cs ds c n h = let l = h.low 0 (omega arith) in sym (joined ds c 0) ∙ (λ i. l.1 i ++ l.2 i) ∙ joined cs c 0
+  pub added_behind : {U E : Type 0} (r : Result U E) (cs ds : List (Vec X)) (c p : ℕ) (e : X) → (before cs c p ≡ flat cs) × (after cs c p ≡ []) → OnOk r (flat ds ≡ flat cs ++ e ∷ []) → OnOk r (flat ds ≡ before cs c p ++ e ∷ after cs c p)
+  added_behind (Ok u) cs ds c p e t h = h ∙ (λ i. sym t.0 i ++ e ∷ sym t.1 i)
+  added_behind (Err u) cs ds c p e t h = tt
+
+  -- at the same place in other chunks
+  pub same_entries : (cs ds : List (Vec X)) (c p d r : ℕ) → IsSamePlace cs c p ds d r → flat ds ≡ flat cs
+  same_entries cs ds c p d r h = sym (joined ds d r) ∙ (λ i. h.front i ++ h.behind i) ∙ joined cs c p
+
+  pub put_there : {U E : Type 0} (o : Result U E) (cs ds : List (Vec X)) (c p d r : ℕ) (new : List X) (e : X) → IsSamePlace cs c p ds d r → OnOk o (new ≡ before ds d r ++ e ∷ after ds d r) → OnOk o (new ≡ before cs c p ++ e ∷ after cs c p)
+  put_there (Ok u) cs ds c p d r new e h k = k ∙ (λ i. h.front i ++ e ∷ h.behind i)
+  put_there (Err u) cs ds c p d r new e h k = tt
 
   pub on_err_then : {U E : Type 0} (r : Result U E) (xs ys zs : List X) → OnErr r (xs ≡ ys) → ys ≡ zs → OnErr r (xs ≡ zs)
   on_err_then (Ok u) xs ys zs h k = tt

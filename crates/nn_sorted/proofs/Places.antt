@@ -1,5 +1,5 @@
 -- The two parts of entries in chunks around a place, and what a search knows of them.
-use Rattle.std.proofs.Common.{◌≡◌, ℕ, zero, suc, ◌<◌, ◌≤◌, true, false, List, [], ◌∷◌, ◌++◌, length, take, drop, append_assoc, Option, Some, None, IfSome, is_some, Result, Ok, Err, IfOk, IfErr, slice_get, refl, sym, ap, subst, ◌∙◌, arith}
+use Rattle.std.proofs.Common.{◌≡◌, ℕ, zero, suc, ◌+◌, ◌<◌, ◌≤◌, true, false, List, [], ◌∷◌, ◌++◌, length, take, drop, append_assoc, Option, Some, None, IfSome, is_some, Result, Ok, Err, IfOk, IfErr, slice_get, refl, sym, ap, subst, ◌∙◌, arith}
 use Rattle.std.proofs.Math.Seq.{drop-cons, take-suc}
 use Rattle.std.proofs.lemmas.List.{take-append-drop}
 use Rattle.std.proofs.lemmas.Option.{slice_get_within, get_or_from_slice_get}
@@ -7,7 +7,7 @@ use mathlib.Core.Bool.{true≢false}
 use Rattle.std.specs.Global.{Vec}
 use Rattle.std.specs.declared.cmp.Ordering.{Ordering}
 use Rattle.std.specs.declared.cmp.Ordering.TheVariants.{Less, Equal, Greater}
-use Rattle.std.specs.Ordering.{is_lt, is_le}
+use Rattle.std.specs.Ordering.{is_eq, is_lt, is_le}
 use Rattle.std.specs.List.{AllByRecursion}
 use Rattle.std.specs.List.Sorted.{IsStrictlySortedBy}
 use Rattle.std.specs.Map.{keys_of}
@@ -20,6 +20,11 @@ if_some P o x e h = subst (λ u. IfSome u P) e h
 
 some_if : {A : Type 0} (P : A → Type 0) (o : Option A) (x : A) → o ≡ Some x → P x → IfSome o P
 some_if P o x e h = subst (λ u. IfSome u P) (sym e) h
+
+pub equal_of : (r : Ordering) → is_eq r ≡ true → r ≡ Equal
+equal_of Less e = absurd (true≢false (sym e))
+equal_of Equal e = refl
+equal_of Greater e = absurd (true≢false (sym e))
 
 module _ {X : Type 0} where
   -- both parts together
@@ -200,3 +205,26 @@ module _ {K V : Type 0} {cmp : K → K → Ordering} (q : K → Ordering) (law :
   pub absent_at_start : (cs : List (Vec (K × V))) → AreFilled cs → IsAhead q cs 0 → IsAbsent q cs 0 0
   absent_at_start [] f a = record { in_chunks = omega arith; in_chunk = tt; above = tt; below = refl }
   absent_at_start (x ∷ cs) f a = record { in_chunks = omega arith; in_chunk = omega arith; above = tt; below = below_next (x ∷ cs) 0 f a }
+
+  -- where a look at a place finds an entry of the key
+  pub found_at : (cs : List (Vec (K × V))) (c p : ℕ) (x : Vec (K × V)) (e : K × V) → IsStrictlySortedBy cmp (keys_of (flat cs)) → slice_get cs c ≡ Some x → slice_get x.items p ≡ Some e → q e.0 ≡ Equal → IsFound q cs c p
+  found_at cs c p x e s at h same = found cs c p x s at (record { in_range = slice_get_within x.items p e h; same = some_if (λ y. q y.0 ≡ Equal) (slice_get x.items p) e h same })
+
+  past_end : (P : K × V → Type 0) (xs : List (K × V)) (n : ℕ) → length xs ≤ n → IfSome (slice_get xs n) P
+  past_end P [] n l = tt
+  past_end P (x ∷ xs) zero l = absurd (omega (arith, l))
+  past_end P (x ∷ xs) (suc n) l = past_end P xs n (omega (arith, l))
+
+  last_alone : (xs : List (K × V)) (p j : ℕ) (e y : K × V) → slice_get xs p ≡ Some e → q e.0 ≡ Greater → j + 1 ≡ suc p → slice_get xs j ≡ Some y → q y.0 ≡ Greater
+  last_alone xs p j e y h up n at =
+      let same : j ≡ p = omega (arith, n) in
+      if_some (λ z. q z.0 ≡ Greater) (slice_get xs p) y (subst (λ k. slice_get xs k ≡ Some y) same at) (some_if (λ z. q z.0 ≡ Greater) (slice_get xs p) e h up)
+
+  -- where the key is above the last entry of all
+  pub absent_at_end : (cs : List (Vec (K × V))) (c p n : ℕ) (x : Vec (K × V)) (e : K × V) → IsStrictlySortedBy cmp (keys_of (flat cs)) → AreFilled cs → suc c ≡ length cs → slice_get cs c ≡ Some x → suc p ≡ length x.items → slice_get x.items p ≡ Some e → q e.0 ≡ Greater
+      → suc p ≡ n → IsAbsent q cs c n
+  absent_at_end cs c p n x e s f last at end h up next =
+      subst (IsAbsent q cs c) next
+      (absent_behind cs c p x s f (λ y g. absurd (let within = slice_get_within cs (suc c) y g in omega (arith, within, last))) at
+      (record { in_range = omega (arith, end); above = λ j y n g. last_alone x.items p j e y h up n g })
+      (past_end (λ y. q y.0 ≡ Less) x.items (suc p) (omega (arith, end))))

@@ -37,6 +37,13 @@ module _ {X : Type 0} where
     pub high : (p : ℕ) → HasEntries cs c (n + p) → HasEntries ds (suc c) p × (before ds (suc c) p ≡ before cs c (n + p)) × (after ds (suc c) p ≡ after cs c (n + p))
     pub longer : length ds ≡ suc (length cs)
 
+  -- at place r of chunk d of ds stands what stands at place p of chunk c of cs, and so does what stands before it
+  pub record IsSamePlace (cs : List (Vec X)) (c p : ℕ) (ds : List (Vec X)) (d r : ℕ) : Type 0 where
+    pub in_chunks : d < length ds
+    pub in_chunk : HasEntries ds d r
+    pub front : before ds d r ≡ before cs c p
+    pub behind : after ds d r ≡ after cs c p
+
 -- of a key, which compares to each other one by `compare`
 module _ {K V : Type 0} (compare : K → Ordering) where
   -- how it compares to the first of these entries; it stands before none

@@ -1,11 +1,11 @@
 //! Entries in chunks: where a key stands, and how an entry comes in and goes out.
-ghost use Rattle.std.specs.Prelude.{if◌then◌else◌, is_ok, ◌≡◌, ◌+◌, ◌<◌, ◌≤◌, [], ◌∷◌, ◌++◌, length, None, IfOk, IfErr, IfSome, OnOk, OnErr, not};
+ghost use Rattle.std.specs.Prelude.{if◌then◌else◌, is_ok, true, false, ◌≡◌, ◌+◌, ◌<◌, ◌≤◌, [], ◌∷◌, ◌++◌, length, None, IfOk, IfErr, IfSome, OnOk, OnErr, not};
 ghost use Rattle.std.specs.Ordering.{is_lt};
 ghost use Rattle.std.specs.List.Sorted.{IsStrictlySortedBy};
 ghost use Rattle.std.specs.List.{insert};
 ghost use Rattle.std.specs.Map.{keys_of};
 ghost use Rattle.std.specs.Vec.{vec_capacity, vec_len};
-ghost use Rattle.nn_sorted.specs.Chunks.{flat, before, after, AreFilled, HasEntries, IsCut, IsFound, IsAbsent, IsAbove, IsAhead, IsBegun, IsBelow, IsHere, to_first};
+ghost use Rattle.nn_sorted.specs.Chunks.{flat, before, after, AreFilled, HasEntries, IsCut, IsFound, IsAbsent, IsAbove, IsAhead, IsBegun, IsBelow, IsHere, IsSamePlace, to_first};
 
 use crate::seek::Seek;
 use std::alloc::{AllocError, AllocFailed, Global};
@@ -33,6 +33,19 @@ pub(crate) fn find<K: Ord, V, Q: Seek<K>>(
     ensures found { IfOk result.1 (IsFound (Q.order key) chunks.now result.0) }
     ensures absent { IfErr result.1 (IsAbsent (Q.order key) chunks.now result.0) }
 {
+    if let Some(end) = find_at_end(chunks, key) {
+        return end;
+    }
+    search(chunks, key)
+}
+
+// The same, by halves alone.
+fn search<K: Ord, V, Q: Seek<K>>(chunks: &[Vec<(K, V)>], key: Q) -> (usize, Result<usize, usize>)
+    requires filled { AreFilled chunks.now }
+    requires order { IsStrictlySortedBy K.cmp (keys_of (flat chunks.now)) }
+    ensures found { IfOk result.1 (IsFound (Q.order key) chunks.now result.0) }
+    ensures absent { IfErr result.1 (IsAbsent (Q.order key) chunks.now result.0) }
+{
     if chunks.len() == 1 {
         return (0, place_in(&chunks[0], key));
     }
@@ -44,21 +57,81 @@ pub(crate) fn find<K: Ord, V, Q: Seek<K>>(
     (chunk, place_in(&chunks[chunk], key))
 }
 
-// Where the key stands among these entries, or would go. The last one is looked at first, since keys often ascend.
+// The same, where the key is not below the last entry of all, as keys often ascend.
+fn find_at_end<K: Ord, V, Q: Seek<K>>(
+    chunks: &[Vec<(K, V)>],
+    key: Q,
+) -> Option<(usize, Result<usize, usize>)>
+    requires filled { AreFilled chunks.now }
+    requires order { IsStrictlySortedBy K.cmp (keys_of (flat chunks.now)) }
+    ensures found { IfSome result (λ at. IfOk at.1 (IsFound (Q.order key) chunks.now at.0)) }
+    ensures absent { IfSome result (λ at. IfErr at.1 (IsAbsent (Q.order key) chunks.now at.0)) }
+{
+    let Some(last) = chunks.last() else {
+        return None;
+    };
+    let chunk = chunks.len() - 1;
+    let end = last.len() - 1;
+    match key.compare(&last[end].0) {
+        Ordering::Less => None,
+        Ordering::Equal => Some((chunk, Ok(end))),
+        Ordering::Greater => Some((chunk, Err(end + 1))),
+    }
+}
+
+// What `find` gives, with two looks before the search: at the last entry of all, and at the place that the last search found.
+// Where they fail, the place that is found is noted. What else is done to the chunks makes the note no worse than useless.
+pub(crate) fn find_near<K: Ord, V, Q: Seek<K>>(
+    chunks: &[Vec<(K, V)>],
+    recent: &mut usize,
+    key: Q,
+) -> (usize, Result<usize, usize>)
+    requires filled { AreFilled chunks.now }
+    requires order { IsStrictlySortedBy K.cmp (keys_of (flat chunks.now)) }
+    ensures found { IfOk result.1 (IsFound (Q.order key) chunks.now result.0) }
+    ensures absent { IfErr result.1 (IsAbsent (Q.order key) chunks.now result.0) }
+{
+    let Some(last) = chunks.last() else {
+        return (0, Err(0));
+    };
+    let chunk = chunks.len() - 1;
+    let place = last.len() - 1;
+    if stands(chunks, chunk, place, key) {
+        return (chunk, Ok(place));
+    }
+    let chunk = *recent / FULL;
+    let place = *recent % FULL;
+    if stands(chunks, chunk, place, key) {
+        return (chunk, Ok(place));
+    }
+    let (chunk, place) = search(chunks, key);
+    if let Ok(place) = place {
+        *recent = chunk.wrapping_mul(FULL).wrapping_add(place);
+    }
+    (chunk, place)
+}
+
+// Whether an entry of the key stands at this place.
+fn stands<K: Ord, V, Q: Seek<K>>(chunks: &[Vec<(K, V)>], chunk: usize, place: usize, key: Q) -> bool
+    requires { IsStrictlySortedBy K.cmp (keys_of (flat chunks.now)) }
+    ensures { result ≡ true → IsFound (Q.order key) chunks.now chunk place }
+{
+    let Some(entries) = chunks.get(chunk) else {
+        return false;
+    };
+    let Some(entry) = entries.get(place) else {
+        return false;
+    };
+    key.equals(&entry.0)
+}
+
+// Where the key stands among these entries, or would go.
 fn place_in<K: Ord, V, Q: Seek<K>>(entries: &[(K, V)], key: Q) -> Result<usize, usize>
     ensures found { IfOk result (IsHere (Q.order key) entries.now) }
     ensures absent { IfErr result (λ i. IsAbove (Q.order key) entries.now i × IsBelow (Q.order key) entries.now i) }
 {
-    let Some(last) = entries.last() else {
-        return Err(0);
-    };
     let mut low = 0;
-    let mut high = entries.len() - 1;
-    match key.compare(&last.0) {
-        Ordering::Less => {}
-        Ordering::Equal => return Ok(high),
-        Ordering::Greater => return Err(high + 1),
-    }
+    let mut high = entries.len();
     'halves: while low < high {
         let middle = low + (high - low) / 2;
         match key.compare(&entries[middle].0) {
@@ -70,19 +143,13 @@ fn place_in<K: Ord, V, Q: Seek<K>>(entries: &[(K, V)], key: Q) -> Result<usize, 
     Err(low)
 }
 
-// How many chunks begin at the key or below it. Here too the last one is looked at first.
+// How many chunks begin at the key or below it.
 fn begun<K: Ord, V, Q: Seek<K>>(chunks: &[Vec<(K, V)>], key: Q) -> usize
     requires { AreFilled chunks.now }
     ensures range { result ≤ length chunks.now }
     ensures begun { IsBegun (Q.order key) chunks.now result }
     ensures ahead { IsAhead (Q.order key) chunks.now result }
 {
-    let Some(last) = chunks.last() else {
-        return 0;
-    };
-    if has_begun(last, key) {
-        return chunks.len();
-    }
     let mut low = 0;
     let mut high = chunks.len();
     'halves: while low < high {
@@ -120,23 +187,58 @@ pub(crate) fn put<K: Drop, V: Drop>(
     ensures filled { AreFilled chunks.new.items }
     ensures back { IfErr result (λ refused. refused.value ≡ entry) }
 {
-    if chunk == chunks.len() {
+    if begins_chunk(chunks, chunk, place) {
         return add(chunks, alloc, entry);
     }
-    let len = chunks[chunk].len();
-    if len < FULL {
-        return put_in(chunks, chunk, place, entry);
-    }
-    if place == len && chunk + 1 == chunks.len() {
-        return add(chunks, alloc, entry);
-    }
-    let Ok(()) = cut(chunks, chunk) else {
+    let Ok((chunk, place)) = make_place(chunks, chunk, place) else {
         return Err(AllocFailed { value: entry });
     };
-    if place <= HALF {
-        return put_in(chunks, chunk, place, entry);
+    put_in(chunks, chunk, place, entry)
+}
+
+// Whether an entry that comes to this place begins a chunk: all others stand before it, and the last chunk is full.
+fn begins_chunk<K, V>(chunks: &[Vec<(K, V)>], chunk: usize, place: usize) -> bool
+    requires in_chunks { chunk ≤ length chunks.now }
+    requires in_chunk { HasEntries chunks.now chunk place }
+    ensures behind { result ≡ true → (before chunks.now chunk place ≡ flat chunks.now) × (after chunks.now chunk place ≡ []) }
+    ensures within { result ≡ false → chunk < length chunks.now }
+{
+    let Some(entries) = chunks.get(chunk) else {
+        return true;
+    };
+    let len = entries.len();
+    if len < FULL {
+        return false;
     }
-    put_in(chunks, chunk + 1, place - HALF, entry)
+    if place < len {
+        return false;
+    }
+    chunk + 1 == chunks.len()
+}
+
+// Where an entry goes that comes to this place. A full chunk is cut in two first.
+fn make_place<K: Drop, V: Drop>(
+    chunks: &mut Vec<Vec<(K, V)>>,
+    chunk: usize,
+    place: usize,
+) -> Result<(usize, usize), AllocError>
+    requires in_chunks { chunk < length chunks.old.items }
+    requires in_chunk { HasEntries chunks.old.items chunk place }
+    requires filled { AreFilled chunks.old.items }
+    ensures ok { IfOk result (λ at. IsSamePlace chunks.old.items chunk place chunks.new.items at.0 at.1) }
+    ensures err { OnErr result (chunks.new.items ≡ chunks.old.items) }
+    ensures filled { AreFilled chunks.new.items }
+{
+    if chunks[chunk].len() < FULL {
+        return Ok((chunk, place));
+    }
+    let Ok(()) = cut(chunks, chunk) else {
+        return Err(AllocError);
+    };
+    if place <= HALF {
+        return Ok((chunk, place));
+    }
+    Ok((chunk + 1, place - HALF))
 }
 
 // Puts an entry at a place of a chunk.

@@ -7,7 +7,7 @@ ghost use Rattle.std.specs.BTreeMap.{insert_entry, is_at};
 ghost use Rattle.std.specs.Borrow.{sem};
 ghost use Rattle.nn_sorted.specs.Values.{value_at, value_by, entries_from, ReplacesFirst};
 
-use crate::chunks::{find, put, take, take_last};
+use crate::chunks::{find, find_near, put, take, take_last};
 use crate::entries::Entries;
 use crate::seek::Seek;
 use std::alloc::{AllocFailed, Global};
@@ -23,6 +23,9 @@ pub struct SortedMap<K: Ord, V> {
     // No chunk is empty.
     chunks: Vec<Vec<(K, V)>>,
     len: usize,
+    // Where `get_mut_near` found a key last: the place in a chunk, and 64 for each chunk before that one. A look there says
+    // whether a key stands there still, so no change of the entries has to keep it right.
+    recent: usize,
     alloc: Global,
 }
 
@@ -94,6 +97,7 @@ impl<K: Ord, V> SortedMap<K, V> {
         let SortedMap {
             chunks,
             len: _,
+            recent: _,
             alloc: _,
         } = self;
         chunks.destroy_empty();
@@ -110,6 +114,7 @@ impl<K: Ord + Drop, V: Drop> SortedMap<K, V> {
         SortedMap {
             chunks: Vec::new(alloc),
             len: 0,
+            recent: 0,
             alloc,
         }
     }
@@ -152,6 +157,20 @@ impl<K: Ord + Drop, V: Drop> SortedMap<K, V> {
             return None;
         };
         Some(&mut self.chunks[chunk][place].1)
+    }
+
+    /// What `get_mut` gives, for keys that come again: O(1) where the key is the last one of all, or the one that the last search
+    /// of this call found. Else it costs two comparisons more.
+    pub fn get_mut_near<Q: Seek<K>>(&mut self, key: Q) -> Option<&mut V>
+        ensures* writes_back { sem 𝓛 (lends_get K.row V.row K.Ord self.entry (Q.order key) result) }
+        ensures value { option_copied_mut result ≡ value_by (Q.order key) self.old }
+        ensures ordered { IsStrictlySortedBy K.cmp (keys_of self.old) }
+    {
+        let (near, place) = find_near(&self.chunks, &mut self.recent, key);
+        let Ok(place) = place else {
+            return None;
+        };
+        Some(&mut self.chunks[near][place].1)
     }
 
     /// Puts a value at a key, and gives the one that was there, if any: then the key that was there stays. O(log entries), and

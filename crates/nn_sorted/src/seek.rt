@@ -2,7 +2,7 @@
 ghost use Rattle.std.specs.Prelude.{◌≡◌, IsTrue};
 ghost use Rattle.std.specs.declared.cmp.Ordering.{Ordering};
 ghost use Rattle.std.specs.declared.cmp.Ordering.TheVariants.{Less, Equal};
-ghost use Rattle.std.specs.Ordering.{is_le};
+ghost use Rattle.std.specs.Ordering.{is_eq, is_le};
 ghost use Rattle.std.specs.BTreeMap.Comparable.{le_lt_trans};
 
 use std::cmp::Ordering;
@@ -15,6 +15,13 @@ pub trait Seek<K: Ord>: Copy {
     /// How it compares to a key.
     fn compare(&self, key: &K) -> Ordering
         ensures { result ≡ order self.now key.now };
+
+    /// Whether it is equal to a key. A type for which that costs less than a comparison says so by a body of its own.
+    fn equals(&self, key: &K) -> bool
+        ensures { result ≡ is_eq (order self.now key.now) }
+    {
+        self.compare(key).is_eq()
+    }
 
     /// What is equal to a key compares to each key as that one does.
     ghost same: { (q : Self) (x y : K) → order q x ≡ Equal → order q y ≡ K.cmp x y };

@@ -1,10 +1,9 @@
 -- A rename in a child of a directory, as the directory sees it.
-use Rattle.std.proofs.Common.{◌≡◌, inl, inr, ℕ, suc, Bool, true, false, cond, not, ◌&&◌, length, drop, arith, List, [], ◌∷◌, ◌++◌, Option, Some, None, refl, sym, ap, ◌∙◌}
+use Rattle.std.proofs.Common.{◌≡◌, inl, inr, ℕ, suc, false, cond, not, ◌&&◌, length, drop, arith, List, [], ◌∷◌, ◌++◌, Some, None, refl, sym, ap, ◌∙◌}
 use Rattle.std.specs.Prelude.{nat_lt}
 use Rattle.std.specs.Str.{bytes_eq}
 use Rattle.std.proofs.lemmas.Bool.{both_ways, cases_Bool, false_from_ne_true, lt-ltb, ltb-true}
 use Rattle.nn_types.specs.declared.edit_fault.EditFault.TheVariants.{IntoItself}
-use Rattle.nn_model.specs.declared.form.Form.{Form}
 use Rattle.nn_model.specs.Namespace.{Path, begins_with}
 use Rattle.nn_model.specs.Apply.{first_fault, fault_if, walk, is_root, missing, exists}
 use Rattle.nn_model.proofs.Dues.{all_none}
@@ -24,6 +23,11 @@ less_after a b = elim (cases_Bool (nat_lt a b)) [
 -- a path whose first name is another path's
 pub same_first : (a b : List ℕ) (rest p : Path) → false ≡ not (bytes_eq a b) → p ≡ b ∷ rest → p ≡ a ∷ rest
 same_first a b rest p same is = is ∙ ap (λ x. x ∷ rest) (sym (is_called a a b refl same))
+
+-- a path with which another one does not begin has a name
+pub apart_named : (s d : Path) → begins_with s d ≡ false → is_root s ≡ None
+apart_named [] d h = cc
+apart_named (n ∷ s) d h = refl
 
 module _ (es new t w : Rows) (n : List ℕ) (s d ss dd : Path) (is_s : ss ≡ n ∷ s) (is_d : dd ≡ n ∷ d) (step : IsStep es new n t w) where
   -- what has moved in the child has moved in the directory

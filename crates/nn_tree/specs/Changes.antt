@@ -16,6 +16,10 @@ use Rattle.nn_tree.specs.Walks.{mkdir_fault}
 abbrev pub IsMade : List (Path × Form) → Path → List (Path × Form) → List (Path × Form) → Type 0
 IsMade old p t new = (mkdir_fault (at old) p ≡ None) × IsSubtree old p None × IsGrafted old p (Some t) new
 
+-- an open file alone that has no blocks
+abbrev pub open_file : ℕ → List (Path × Form)
+open_file replication = ([], File (record { replication = replication; closed = false; blocks = [] })) ∷ []
+
 -- t stood at the path p, and nothing stands there or below now
 abbrev pub IsTaken : List (Path × Form) → Path → List (Path × Form) → List (Path × Form) → Type 0
 IsTaken old p t new = (walk (at old) p ≡ None) × IsSubtree old p (Some t) × IsGrafted old p None new

@@ -214,4 +214,8 @@ impl<'a> Seek<Name> for &Wanted<'a> {
     fn compare(&self, key: &Name) -> Ordering {
         self.against(key)
     }
+
+    fn equals(&self, key: &Name) -> bool {
+        self.text == key.as_str()
+    }
 }

@@ -1,5 +1,5 @@
 //! A directory tree, seen as the list of its paths with what stands there. It knows no ids and no index.
-ghost use Rattle.std.specs.Prelude.{◌≡◌, [], ◌∷◌, ◌++◌, ◌&&◌, nat_lt, OnOk, OnErr, ◌+◌, ◌<◌, ◌≤◌, length, is_some, Some, None, true, MatchResult, IfOk, IfErr, IfSome};
+ghost use Rattle.std.specs.Prelude.{◌≡◌, [], ◌∷◌, ◌++◌, ◌&&◌, nat_lt, OnOk, OnErr, ◌+◌, ◌<◌, ◌≤◌, length, is_some, Some, None, true, false, MatchResult, IfOk, IfErr, IfSome};
 ghost use Rattle.nn_tree.specs.Walks.{file_fault, mkdir_fault, delete_fault, rename_fault, IsRenamed};
 ghost use Rattle.nn_model.specs.Apply.{walk};
 ghost use Rattle.std.specs.Option.{option_copied};
@@ -270,19 +270,20 @@ impl Tree {
         let Node::Folder(children) = &mut self.node else {
             return Err(Unchanged);
         };
-        let Some(child) = children.get_mut(&Wanted::by(first)) else {
+        let Some(child) = children.get_mut_near(&Wanted::by(first)) else {
             return Err(Unchanged);
         };
         child.rename(alloc, &src_rest, &dst_rest)
     }
 
-    // Moves what stands at `src` to `dst`. The place is made first, so that nothing has changed if memory runs out.
+    // The same, where `dst` does not begin with `src`. The place is made first, so that nothing has changed if memory runs out.
     fn rename_apart(
         &mut self,
         alloc: Global,
         src: &Names<'_>,
         dst: &Names<'_>,
     ) -> Result<(), Unchanged>
+        requires { begins_with src.now dst.now ≡ false }
         ensures applies { OnOk result (rename_fault (at self.old) src.now dst.now ≡ None) }
         ensures free { OnOk result (IsSubtree self.old dst.now None) }
         ensures ok { OnOk result (IsRenamed self.old src.now dst.now self.new) }
@@ -290,13 +291,7 @@ impl Tree {
         ensures order { is_sorted path_cmp self.new ≡ true }
     {
         self.recall_invariant();
-        if src.is_empty() {
-            return Err(Unchanged);
-        }
-        if begins_with(dst, src) {
-            return Err(Unchanged);
-        }
-        let Ok(()) = self.make(alloc, dst, Tree::new_dir(alloc)) else {
+        let Ok(()) = self.make_dir(alloc, dst) else {
             self.recall_invariant();
             return Err(Unchanged);
         };
@@ -306,7 +301,7 @@ impl Tree {
             return Err(Unchanged);
         };
         let _found = tree.top();
-        let _placeholder = self.put(dst, tree);
+        self.put(dst, tree);
         self.recall_invariant();
         Ok(())
     }
@@ -404,22 +399,6 @@ fn hang_below(
     };
     let next = children.replace_first(own);
     Some((next, Some(children)))
-}
-
-// Whether the path begins with the prefix.
-fn begins_with(names: &Names<'_>, prefix: &Names<'_>) -> bool
-    ensures { result ≡ begins_with prefix.now names.now }
-{
-    let Some((p, ps)) = prefix.split_first() else {
-        return true;
-    };
-    let Some((n, ns)) = names.split_first() else {
-        return false;
-    };
-    if p != n {
-        return false;
-    }
-    begins_with(&ns, &ps)
 }
 
 // Whether the path lies below the prefix: begins with it, and goes on.

@@ -1,6 +1,6 @@
 //! What each edit does, each in one walk down its path where it applies. Growth comes before change, so that an edit
 //! that is refused, and one for which memory ran out, leaves all as it was. `Namespace::refusal` tells these apart.
-ghost use Rattle.std.specs.Prelude.{◌≡◌, ◌≢◌, None, OnOk, OnErr, IfOk, false, []};
+ghost use Rattle.std.specs.Prelude.{◌≡◌, ◌≢◌, None, OnOk, OnErr, IfOk, false};
 ghost use Rattle.nn_types.specs.declared.edit.Edit.TheVariants as edit;
 ghost use Rattle.nn_types.specs.LawfulEdit.{IsTypedEdit};
 ghost use Rattle.nn_model.specs.Namespace.{file_at};
@@ -14,10 +14,9 @@ use super::Namespace;
 use super::checks::is_replication;
 use crate::index::{forget, renew};
 use crate::touched::{Touched, empty_block};
-use crate::tree::{Tree, Unchanged};
-use nn_model::{BlockRow, FileRow};
+use crate::tree::Unchanged;
+use nn_model::BlockRow;
 use nn_types::{BlockId, Blocks, Edit, GenerationStamp, Path, Profile, Replication};
-use std::alloc::Global;
 
 impl Namespace {
     // Makes the change of an edit, if it applies.
@@ -62,10 +61,7 @@ impl Namespace {
         let Some(sizes) = self.sizes.with_directory() else {
             return Err(Unchanged);
         };
-        let Ok(()) = self
-            .root
-            .make(self.alloc, &path.names(), Tree::new_dir(self.alloc))
-        else {
+        let Ok(()) = self.root.make_dir(self.alloc, &path.names()) else {
             return Err(Unchanged);
         };
         self.sizes = sizes;
@@ -82,11 +78,7 @@ impl Namespace {
         let Some(sizes) = self.sizes.with_file() else {
             return Err(Unchanged);
         };
-        let file = empty_file(self.alloc, replication);
-        let Ok(()) = self
-            .root
-            .make(self.alloc, &path.names(), Tree::new_file(file))
-        else {
+        let Ok(()) = self.root.make_file(self.alloc, &path.names(), replication) else {
             return Err(Unchanged);
         };
         self.sizes = sizes;
@@ -270,16 +262,5 @@ impl Namespace {
         }
         self.issued.set_stamp(stamp);
         Ok(Touched::nothing(self.alloc))
-    }
-}
-
-// An open file with no blocks.
-fn empty_file(alloc: Global, replication: Replication) -> FileRow
-    ensures { result ≡ record { replication = replication; closed = false; blocks = [] } }
-{
-    FileRow {
-        replication,
-        closed: false,
-        blocks: Blocks::new(alloc),
     }
 }

@@ -64,7 +64,7 @@ impl Tree {
         let Node::Folder(children) = &mut self.node else {
             return Err(Unchanged);
         };
-        let Some(child) = children.get_mut(&Wanted::by(first)) else {
+        let Some(child) = children.get_mut_near(&Wanted::by(first)) else {
             return Err(Unchanged);
         };
         child.change_at(&rest, change)

@@ -1,14 +1,16 @@
 //! Trees that are put into a tree, and taken out.
 ghost use Rattle.std.specs.Prelude.{◌≡◌, ⊤, IfOk, true, false, [], ◌∷◌, length, ◌<◌, Some, None, OnOk, OnErr, IfSome, IsSome};
 ghost use Rattle.nn_model.specs.Apply.{walk};
+ghost use Rattle.nn_model.specs.declared.form.Form.TheVariants.{Dir};
 ghost use Rattle.nn_tree.specs.At.{at, IsSubtree, IsGrafted, IsSame};
-ghost use Rattle.nn_tree.specs.Changes.{IsMade, IsTaken};
+ghost use Rattle.nn_tree.specs.Changes.{IsMade, IsTaken, open_file};
 
 use super::descent::Change;
 use super::{Node, Tree, Unchanged};
 use crate::name::{Name, Wanted};
+use nn_model::FileRow;
 use nn_sorted::SortedMap;
-use nn_types::Names;
+use nn_types::{Blocks, Names, Replication};
 use std::alloc::Global;
 use std::mem;
 
@@ -29,6 +31,33 @@ impl Tree {
         self.change_at(names, Make { alloc, tree })
     }
 
+    /// Makes a directory at a path where nothing stands, in a directory.
+    pub(crate) fn make_dir(&mut self, alloc: Global, names: &Names<'_>) -> Result<(), Unchanged>
+        ensures ok { OnOk result (IsMade self.old names.now (([], Dir) ∷ []) self.new) }
+        ensures err { OnErr result (IsSame self.old self.new) }
+    {
+        if names.is_empty() {
+            return Err(Unchanged);
+        }
+        self.change_at(names, MakeDir { alloc })
+    }
+
+    /// Makes an open file without blocks at a path where nothing stands, in a directory.
+    pub(crate) fn make_file(
+        &mut self,
+        alloc: Global,
+        names: &Names<'_>,
+        replication: Replication,
+    ) -> Result<(), Unchanged>
+        ensures ok { OnOk result (IsMade self.old names.now (open_file replication) self.new) }
+        ensures err { OnErr result (IsSame self.old self.new) }
+    {
+        if names.is_empty() {
+            return Err(Unchanged);
+        }
+        self.change_at(names, MakeFile { alloc, replication })
+    }
+
     /// Takes out what stands at the path.
     pub(crate) fn take(&mut self, alloc: Global, names: &Names<'_>) -> Option<Tree>
         requires { 0 < length names.now }
@@ -42,16 +71,14 @@ impl Tree {
         Some(tree)
     }
 
-    /// Puts a tree in place of what stands at the path, and gives that back.
-    pub(crate) fn put(&mut self, names: &Names<'_>, tree: Tree) -> Tree
+    /// Puts a tree in place of what stands at the path.
+    pub(crate) fn put(&mut self, names: &Names<'_>, tree: Tree)
         requires { IsSome (at self.old names.now) }
-        ensures old { IsSubtree self.old names.now (Some result) }
-        ensures new { IsGrafted self.old names.now (Some tree) self.new }
+        ensures { IsGrafted self.old names.now (Some tree) self.new }
     {
-        let Ok(before) = self.change_at(names, Put { tree }) else {
+        let Ok(()) = self.change_at(names, Put { tree }) else {
             unreachable!()
         };
-        before
     }
 
     // Puts a tree into a directory, under a name that no child has.
@@ -164,6 +191,73 @@ impl Change for Make {
     }
 }
 
+// Puts an empty directory into the directory, under the last name. A walk has nothing to carry then.
+#[derive(Drop)]
+struct MakeDir {
+    alloc: Global,
+}
+
+impl Change for MakeDir {
+    type Gives = ();
+
+    ghost in_parent = { true };
+
+    ghost changes = { λ c rest t w given. IsMade t rest (([], Dir) ∷ []) w };
+
+    ghost refuses = { λ c rest t. ⊤ };
+
+    fn is_in_parent() -> bool {
+        true
+    }
+
+    fn change(self, dir: &mut Tree, last: Option<&str>) -> Result<(), Unchanged> {
+        let Some(name) = last else { unreachable!() };
+        let made = dir.add(self.alloc, name, Tree::new_dir(self.alloc));
+        dir.recall_invariant();
+        made
+    }
+}
+
+// The same with an open file that has no blocks.
+#[derive(Drop)]
+struct MakeFile {
+    alloc: Global,
+    replication: Replication,
+}
+
+impl Change for MakeFile {
+    type Gives = ();
+
+    ghost in_parent = { true };
+
+    ghost changes = { λ c rest t w given. IsMade t rest (open_file c.replication) w };
+
+    ghost refuses = { λ c rest t. ⊤ };
+
+    fn is_in_parent() -> bool {
+        true
+    }
+
+    fn change(self, dir: &mut Tree, last: Option<&str>) -> Result<(), Unchanged> {
+        let Some(name) = last else { unreachable!() };
+        let file = empty_file(self.alloc, self.replication);
+        let made = dir.add(self.alloc, name, Tree::new_file(file));
+        dir.recall_invariant();
+        made
+    }
+}
+
+// An open file with no blocks.
+fn empty_file(alloc: Global, replication: Replication) -> FileRow
+    ensures { result ≡ record { replication = replication; closed = false; blocks = [] } }
+{
+    FileRow {
+        replication,
+        closed: false,
+        blocks: Blocks::new(alloc),
+    }
+}
+
 // Takes what the last name has out of the directory.
 #[derive(Drop)]
 struct Take {
@@ -198,11 +292,11 @@ struct Put {
 }
 
 impl Change for Put {
-    type Gives = Tree;
+    type Gives = ();
 
     ghost in_parent = { false };
 
-    ghost changes = { λ c rest t w given. (rest ≡ []) × (given ≡ t) × (w ≡ c.tree) };
+    ghost changes = { λ c rest t w given. (rest ≡ []) × (w ≡ c.tree) };
 
     ghost refuses = { λ c rest t. ⊥ };
 
@@ -210,8 +304,9 @@ impl Change for Put {
         false
     }
 
-    fn change(self, tree: &mut Tree, _last: Option<&str>) -> Result<Tree, Unchanged> {
+    fn change(self, tree: &mut Tree, _last: Option<&str>) -> Result<(), Unchanged> {
         self.tree.recall_invariant();
-        Ok(mem::replace(tree, self.tree))
+        let _before = mem::replace(tree, self.tree);
+        Ok(())
     }
 }

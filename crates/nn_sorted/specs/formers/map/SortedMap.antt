@@ -105,8 +105,8 @@ chunks_holding f X [] p = refl
 chunks_holding f X (c ∷ cs) p = both_holding f X c.items (flat cs) p ∙ ap (all_holding f X c.items) (chunks_holding f X cs p)
 
 abbrev fields : Type 0 → Former {0}
-fields K = via (pair (vec.the_former (vec.the_former (entry this K) Global) Global) (const (ℕ × Global))) (λ X. Inside K X) (λ X a. (a.chunks, (a.len, a.alloc)))
-    (λ X v. record { chunks = v.0; len = v.1.0; alloc = v.1.1 }) (λ X a. refl) (λ X v. refl)
+fields K = via (pair (vec.the_former (vec.the_former (entry this K) Global) Global) (const (ℕ × ℕ × Global))) (λ X. Inside K X) (λ X a. (a.chunks, (a.len, a.recent, a.alloc)))
+    (λ X v. record { chunks = v.0; len = v.1.0; recent = v.1.1; alloc = v.1.2 }) (λ X a. refl) (λ X v. refl)
 
 module _ (K : RattleType) (G : ord.Ghosts K.Denot) (G' : eq.Ghosts K.Denot) (G'' : partial.Ghosts K.Denot) (R R' : RattleType) (h : R.Denot → R'.Denot) where
   abbrev Sound : {X : Type 0} → ℕ → List (Vec (K.Denot × X)) → Type 0
@@ -156,8 +156,8 @@ module _ (K : RattleType) (G : ord.Ghosts K.Denot) (G' : eq.Ghosts K.Denot) (G''
       (invariant K.Denot R.Denot G G' G'') (invariant K.Denot R'.Denot G G' G'') (λ u. Sound-prop u.len u.chunks.items) (λ u. Sound-prop u.len u.chunks.items)
       (λ u s. sound_over u.len u.chunks.items s) (λ u s. sound_back u.len u.chunks.items s)
       (over (I.the_row K R G G' G'')) (over (I.the_row K R' G G' G''))
-      (struct_places (I.the_type K R G G' G'') (I.the_type K R' G G' G'') (vec.mapped (vec.mapped (on_value h)), (λ n. n, (λ n. n, tt))) _ (λ d. refl) refl
-      (laid _ _ _ (chunks_places a), ((refl, (λ n. refl, λ n. refl)), ((refl, (λ n. refl, λ n. refl)), tt))))
+      (struct_places (I.the_type K R G G' G'') (I.the_type K R' G G' G'') (vec.mapped (vec.mapped (on_value h)), (λ n. n, (λ n. n, (λ n. n, tt)))) _ (λ d. refl) refl
+      (laid _ _ _ (chunks_places a), ((refl, (λ n. refl, λ n. refl)), ((refl, (λ n. refl, λ n. refl)), ((refl, (λ n. refl, λ n. refl)), tt)))))
 
   pub the_codes_placed : Recodes R R' h → Recodes (C.the_row K R G G' G'') (C.the_row K R' G G' G'') ((the_former this K.Denot).map R.Denot R'.Denot h)
   the_codes_placed e m = sym (code_map (coded× K.coded R.coded).code (coded× K.coded R'.coded).code (on_value h) (λ x i. gcons (K.coded.code x.0) (sym (e x.1) i)) m)

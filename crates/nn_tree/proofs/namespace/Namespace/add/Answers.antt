@@ -1,13 +1,10 @@
-use Rattle.std.proofs.Common.{◌≡◌, false, not, List, [], ◌∷◌, Some, None, sym, ap, subst, ◌∙◌, refl}
+use Rattle.std.proofs.Common.{◌≡◌, false, not, [], None, sym, ap, subst, ◌∙◌, refl}
 use Rattle.nn_types.specs.declared.edit.Edit.TheVariants as edit
 use Rattle.nn_model.specs.declared.form.Form.TheVariants.{File}
-use Rattle.nn_model.specs.declared.form.FileRow.{FileRow}
-use Rattle.nn_model.specs.Namespace.{Namespace, Path}
+use Rattle.nn_model.specs.Namespace.{Namespace}
 use Rattle.nn_model.specs.Apply.{refusal, effect}
-use Rattle.nn_model.specs.declared.form.Form.{Form}
 use Rattle.nn_sorted.specs.Values.{value_at}
 use Rattle.std.specs.Ordering.{nat_cmp}
-use Rattle.nn_tree.specs.At.{IsGrafted}
 use Rattle.nn_tree.specs.View.{seen, Holds}
 use Rattle.nn_tree.proofs.Applies.{add_applies}
 use Rattle.nn_tree.proofs.Kept.{still_seen, still_held, made, add_kept, mkdir_free, add_mkdir}
@@ -19,12 +16,12 @@ use Rattle.nn_tree.proofs.namespace.Namespace.add.Goals as goal
 pub invariant_of-self : goal.invariant_of-self
 invariant_of-self c =
     let i = c.self.inside in
-    still_held i.root c.make.new.self i.issued _ _ c.in_default-make.ensures.err c.self.invariant
+    still_held i.root c.make_file.new.self i.issued _ _ c.in_default-make_file.ensures.err c.self.invariant
 
-pub returns-in_default-make : goal.returns-in_default-make
-returns-in_default-make c =
+pub returns-in_default-make_file : goal.returns-in_default-make_file
+returns-in_default-make_file c =
     let i = c.self.inside in
-    still_seen i.root c.make.new.self i.issued c.in_default-make.ensures.err ∙ c.self.view_is
+    still_seen i.root c.make_file.new.self i.issued c.in_default-make_file.ensures.err ∙ c.self.view_is
 
 pub invariant_of-self-2 : goal.invariant_of-self-2
 invariant_of-self-2 c =
@@ -34,7 +31,7 @@ invariant_of-self-2 c =
     let ns = c.names.result in
     let lawful : refusal s (edit.Add p c.args.replication) ≡ None = add_applies i.root s p ns c.args.replication refl c.names.ensures.names c.in-Ok.ensures.ok.0 (c.is_replication.ensures ∙ ap not c.if-not-is_replication.false) in
     let row = File (record { replication = c.args.replication; closed = false; blocks = [] }) in
-    let is : seen c.make.new.self i.issued ≡ effect s (edit.Add c.args.path.now c.args.replication) = made i.root c.make.new.self i.issued p ns (File (record { replication = c.args.replication; closed = false; blocks = [] })) c.names.ensures.names c.in-Ok.ensures.ok.1 (subst (λ (es : List (Path × Form)). IsGrafted i.root ns (Some es) c.make.new.self) (c.new_file.ensures ∙ ap (λ (x : FileRow). ([], File x) ∷ []) c.empty_file-file.ensures) c.in-Ok.ensures.ok.2) in
+    let is : seen c.make_file.new.self i.issued ≡ effect s (edit.Add c.args.path.now c.args.replication) = made i.root c.make_file.new.self i.issued p ns (File (record { replication = c.args.replication; closed = false; blocks = [] })) c.names.ensures.names c.in-Ok.ensures.ok.1 c.in-Ok.ensures.ok.2 in
     subst (λ (n : Namespace). Holds n (λ id. value_at nat_cmp i.index id) c.in-Some.sizes) (sym is)
     (add_kept s p c.args.replication _ c.requires.lawful lawful c.self.invariant.0, c.in-Some.ensures ∙ ap (plus (size_of row)) c.self.invariant.1 ∙ sizes_made s p row (mkdir_free s p (add_mkdir s p c.args.replication lawful)))
 
@@ -45,5 +42,5 @@ returns c =
     let p = c.args.path.now in
     let ns = c.names.result in
     let lawful : refusal s (edit.Add p c.args.replication) ≡ None = add_applies i.root s p ns c.args.replication refl c.names.ensures.names c.in-Ok.ensures.ok.0 (c.is_replication.ensures ∙ ap not c.if-not-is_replication.false) in
-    let is : seen c.make.new.self i.issued ≡ effect s (edit.Add p c.args.replication) = made i.root c.make.new.self i.issued p ns (File (record { replication = c.args.replication; closed = false; blocks = [] })) c.names.ensures.names c.in-Ok.ensures.ok.1 (subst (λ (es : List (Path × Form)). IsGrafted i.root ns (Some es) c.make.new.self) (c.new_file.ensures ∙ ap (λ (x : FileRow). ([], File x) ∷ []) c.empty_file-file.ensures) c.in-Ok.ensures.ok.2) in
+    let is : seen c.make_file.new.self i.issued ≡ effect s (edit.Add p c.args.replication) = made i.root c.make_file.new.self i.issued p ns (File (record { replication = c.args.replication; closed = false; blocks = [] })) c.names.ensures.names c.in-Ok.ensures.ok.1 c.in-Ok.ensures.ok.2 in
     done (edit.Add p c.args.replication) c.self.view_is lawful is c.nothing.ensures.touched c.nothing.ensures.replication

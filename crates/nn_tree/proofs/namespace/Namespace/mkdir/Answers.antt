@@ -1,12 +1,10 @@
-use Rattle.std.proofs.Common.{◌≡◌, List, Some, None, sym, subst, ◌∙◌, refl, ap}
+use Rattle.std.proofs.Common.{◌≡◌, None, sym, subst, ◌∙◌, refl, ap}
 use Rattle.nn_types.specs.declared.edit.Edit.TheVariants as edit
 use Rattle.nn_model.specs.declared.form.Form.TheVariants.{Dir}
-use Rattle.nn_model.specs.Namespace.{Namespace, Path}
+use Rattle.nn_model.specs.Namespace.{Namespace}
 use Rattle.nn_model.specs.Apply.{refusal, effect}
-use Rattle.nn_model.specs.declared.form.Form.{Form}
 use Rattle.nn_sorted.specs.Values.{value_at}
 use Rattle.std.specs.Ordering.{nat_cmp}
-use Rattle.nn_tree.specs.At.{IsGrafted}
 use Rattle.nn_tree.specs.View.{seen, Holds}
 use Rattle.nn_tree.specs.Walks.{mkdir_fault}
 use Rattle.nn_tree.proofs.Bridge.{looks}
@@ -19,12 +17,12 @@ use Rattle.nn_tree.proofs.namespace.Namespace.mkdir.Goals as goal
 pub invariant_of-self : goal.invariant_of-self
 invariant_of-self c =
     let i = c.self.inside in
-    still_held i.root c.make.new.self i.issued _ _ c.in_default-make.ensures.err c.self.invariant
+    still_held i.root c.make_dir.new.self i.issued _ _ c.in_default-make_dir.ensures.err c.self.invariant
 
-pub returns-in_default-make : goal.returns-in_default-make
-returns-in_default-make c =
+pub returns-in_default-make_dir : goal.returns-in_default-make_dir
+returns-in_default-make_dir c =
     let i = c.self.inside in
-    still_seen i.root c.make.new.self i.issued c.in_default-make.ensures.err ∙ c.self.view_is
+    still_seen i.root c.make_dir.new.self i.issued c.in_default-make_dir.ensures.err ∙ c.self.view_is
 
 pub invariant_of-self-2 : goal.invariant_of-self-2
 invariant_of-self-2 c =
@@ -33,7 +31,7 @@ invariant_of-self-2 c =
     let p = c.args.path.now in
     let ns = c.names.result in
     let lawful : refusal s (edit.Mkdir p) ≡ None = sym (λ j. mkdir_fault (looks i.root s refl j) (c.names.ensures.names j)) ∙ c.in-Ok.ensures.ok.0 in
-    let is : seen c.make.new.self i.issued ≡ effect s (edit.Mkdir c.args.path.now) = made i.root c.make.new.self i.issued p ns Dir c.names.ensures.names c.in-Ok.ensures.ok.1 (subst (λ (es : List (Path × Form)). IsGrafted i.root ns (Some es) c.make.new.self) c.new_dir.ensures c.in-Ok.ensures.ok.2) in
+    let is : seen c.make_dir.new.self i.issued ≡ effect s (edit.Mkdir c.args.path.now) = made i.root c.make_dir.new.self i.issued p ns Dir c.names.ensures.names c.in-Ok.ensures.ok.1 c.in-Ok.ensures.ok.2 in
     subst (λ (n : Namespace). Holds n (λ id. value_at nat_cmp i.index id) c.in-Some.sizes) (sym is)
     (mkdir_kept s p _ c.requires.lawful lawful c.self.invariant.0, c.in-Some.ensures ∙ ap (plus (size_of Dir)) c.self.invariant.1 ∙ sizes_made s p Dir (mkdir_free s p lawful))
 
@@ -44,5 +42,5 @@ returns c =
     let p = c.args.path.now in
     let ns = c.names.result in
     let lawful : refusal s (edit.Mkdir p) ≡ None = sym (λ j. mkdir_fault (looks i.root s refl j) (c.names.ensures.names j)) ∙ c.in-Ok.ensures.ok.0 in
-    let is : seen c.make.new.self i.issued ≡ effect s (edit.Mkdir p) = made i.root c.make.new.self i.issued p ns Dir c.names.ensures.names c.in-Ok.ensures.ok.1 (subst (λ (es : List (Path × Form)). IsGrafted i.root ns (Some es) c.make.new.self) c.new_dir.ensures c.in-Ok.ensures.ok.2) in
+    let is : seen c.make_dir.new.self i.issued ≡ effect s (edit.Mkdir p) = made i.root c.make_dir.new.self i.issued p ns Dir c.names.ensures.names c.in-Ok.ensures.ok.1 c.in-Ok.ensures.ok.2 in
     done (edit.Mkdir p) c.self.view_is lawful is c.nothing.ensures.touched c.nothing.ensures.replication

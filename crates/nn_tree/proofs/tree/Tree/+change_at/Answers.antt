@@ -7,22 +7,22 @@ use Rattle.nn_tree.proofs.tree.Tree.+change_at.Goals as goal
 
 pub returns-clause-changed : goal.returns-clause-changed
 returns-clause-changed g t c =
-    let s = folder_step c.args.self.now c.self.inside.node c.in-Folder.children c.in-Some.first.now c.by.result c.in-Some-get_mut.child.now c.change_at-2.new.self c.self.view_is c.self.invariant c.in-Folder.is c.in-Some-get_mut.ensures.value c.by.ensures in
-    if_ok c.change_at-2.result (λ given. changed_further c.args.self.now (dir_rows (with_child c.in-Folder.children c.by.result c.change_at-2.new.self)) c.in-Some-get_mut.child.now c.change_at-2.new.self c.in-Some.first.now c.in-Some.rest c.args.names.now (λ rest t w. g.C.Change.changes c.args.change rest t w given) c.in-Some.ensures.some s) c.change_at-2.ensures.changed
+    let s = folder_step c.args.self.now c.self.inside.node c.in-Folder.children c.in-Some.first.now c.by.result c.in-Some-get_mut_near.child.now c.change_at-2.new.self c.self.view_is c.self.invariant c.in-Folder.is c.in-Some-get_mut_near.ensures.value c.by.ensures in
+    if_ok c.change_at-2.result (λ given. changed_further c.args.self.now (dir_rows (with_child c.in-Folder.children c.by.result c.change_at-2.new.self)) c.in-Some-get_mut_near.child.now c.change_at-2.new.self c.in-Some.first.now c.in-Some.rest c.args.names.now (λ rest t w. g.C.Change.changes c.args.change rest t w given) c.in-Some.ensures.some s) c.change_at-2.ensures.changed
 
 pub returns-clause-refused : goal.returns-clause-refused
 returns-clause-refused g t c =
-    let s = folder_step c.args.self.now c.self.inside.node c.in-Folder.children c.in-Some.first.now c.by.result c.in-Some-get_mut.child.now c.change_at-2.new.self c.self.view_is c.self.invariant c.in-Folder.is c.in-Some-get_mut.ensures.value c.by.ensures in
-    on_err c.change_at-2.result (refused_further c.args.self.now (dir_rows (with_child c.in-Folder.children c.by.result c.change_at-2.new.self)) c.in-Some-get_mut.child.now c.change_at-2.new.self c.in-Some.first.now c.in-Some.rest c.args.names.now (g.C.Change.refuses c.args.change) c.in-Some.ensures.some s) c.change_at-2.ensures.refused
+    let s = folder_step c.args.self.now c.self.inside.node c.in-Folder.children c.in-Some.first.now c.by.result c.in-Some-get_mut_near.child.now c.change_at-2.new.self c.self.view_is c.self.invariant c.in-Folder.is c.in-Some-get_mut_near.ensures.value c.by.ensures in
+    on_err c.change_at-2.result (refused_further c.args.self.now (dir_rows (with_child c.in-Folder.children c.by.result c.change_at-2.new.self)) c.in-Some-get_mut_near.child.now c.change_at-2.new.self c.in-Some.first.now c.in-Some.rest c.args.names.now (g.C.Change.refuses c.args.change) c.in-Some.ensures.some s) c.change_at-2.ensures.refused
 
 pub returns-clause-same : goal.returns-clause-same
 returns-clause-same g t c =
-    let s = folder_step c.args.self.now c.self.inside.node c.in-Folder.children c.in-Some.first.now c.by.result c.in-Some-get_mut.child.now c.change_at-2.new.self c.self.view_is c.self.invariant c.in-Folder.is c.in-Some-get_mut.ensures.value c.by.ensures in
+    let s = folder_step c.args.self.now c.self.inside.node c.in-Folder.children c.in-Some.first.now c.by.result c.in-Some-get_mut_near.child.now c.change_at-2.new.self c.self.view_is c.self.invariant c.in-Folder.is c.in-Some-get_mut_near.ensures.value c.by.ensures in
     on_err c.change_at-2.result s.same c.change_at-2.ensures.same
 
 pub returns-clause-order : goal.returns-clause-order
 returns-clause-order g t c =
-    let s = folder_step c.args.self.now c.self.inside.node c.in-Folder.children c.in-Some.first.now c.by.result c.in-Some-get_mut.child.now c.change_at-2.new.self c.self.view_is c.self.invariant c.in-Folder.is c.in-Some-get_mut.ensures.value c.by.ensures in
+    let s = folder_step c.args.self.now c.self.inside.node c.in-Folder.children c.in-Some.first.now c.by.result c.in-Some-get_mut_near.child.now c.change_at-2.new.self c.self.view_is c.self.invariant c.in-Folder.is c.in-Some-get_mut_near.ensures.value c.by.ensures in
     s.order c.change_at-2.ensures.order
 
 pub returns-in-Narrow-clause-changed : goal.returns-in-Narrow-clause-changed
@@ -67,13 +67,13 @@ returns-then-ne-clause-refused g t c =
     none_found c.args.self.now c.in-Some.first.now c.in-Some.rest c.args.names.now (g.C.Change.refuses c.args.change) c.in-Some.ensures.some
     (narrow_other c.args.self.now c.self.inside.node c.in-Narrow.name c.in-Narrow.child c.as_str.result.now c.in-Some.first.now c.self.view_is c.in-Narrow.is c.as_str.ensures c.if-ne.ensures)
 
-pub returns-in_default-get_mut : goal.returns-in_default-get_mut
-returns-in_default-get_mut g t c =
+pub returns-in_default-get_mut_near : goal.returns-in_default-get_mut_near
+returns-in_default-get_mut_near g t c =
     let stays = folder_stays c.args.self.now c.self.inside.node c.in-Folder.children c.self.view_is c.self.invariant c.in-Folder.is in
     record {
       changed = tt;
       refused = none_found c.args.self.now c.in-Some.first.now c.in-Some.rest c.args.names.now (g.C.Change.refuses c.args.change) c.in-Some.ensures.some
-          (folder_other c.args.self.now c.self.inside.node c.in-Folder.children c.in-Some.first.now c.self.view_is c.self.invariant c.in-Folder.is (c.in_default-get_mut.ensures.value ∙ ap (child c.in-Folder.children) c.by.ensures));
+          (folder_other c.args.self.now c.self.inside.node c.in-Folder.children c.in-Some.first.now c.self.view_is c.self.invariant c.in-Folder.is (c.in_default-get_mut_near.ensures.value ∙ ap (child c.in-Folder.children) c.by.ensures));
       same = stays.0;
       order = stays.1;
     }
@@ -93,6 +93,6 @@ invariant_of-self-in-Narrow g t c =
 
 pub invariant_of-self-2 : goal.invariant_of-self-2
 invariant_of-self-2 g t c =
-    let s = folder_step c.args.self.now c.self.inside.node c.in-Folder.children c.in-Some.first.now c.by.result c.in-Some-get_mut.child.now c.change_at-2.new.self c.self.view_is c.self.invariant c.in-Folder.is c.in-Some-get_mut.ensures.value c.by.ensures in
-    let b = written c.in-Folder.children c.by.result c.in-Some-get_mut.child.now c.change_at-2.new.self c.in-Some-get_mut.ensures.value c.in-Some-get_mut.ensures.ordered in
+    let s = folder_step c.args.self.now c.self.inside.node c.in-Folder.children c.in-Some.first.now c.by.result c.in-Some-get_mut_near.child.now c.change_at-2.new.self c.self.view_is c.self.invariant c.in-Folder.is c.in-Some-get_mut_near.ensures.value c.by.ensures in
+    let b = written c.in-Folder.children c.by.result c.in-Some-get_mut_near.child.now c.change_at-2.new.self c.in-Some-get_mut_near.ensures.value c.in-Some-get_mut_near.ensures.ordered in
     (b.ordered, s.order c.change_at-2.ensures.order)

@@ -7,30 +7,30 @@ use Rattle.nn_tree.proofs.tree.Tree.+rename.Goals as goal
 
 pub returns-clause-applies : goal.returns-clause-applies
 returns-clause-applies t c =
-    let s = folder_step c.args.self.now c.self.inside.node c.in-Folder.children c.in-Some.first.now c.by.result c.in-Some-get_mut.child.now c.rename-2.new.self c.self.view_is c.self.invariant c.in-Folder.is c.in-Some-get_mut.ensures.value c.by.ensures in
+    let s = folder_step c.args.self.now c.self.inside.node c.in-Folder.children c.in-Some.first.now c.by.result c.in-Some-get_mut_near.child.now c.rename-2.new.self c.self.view_is c.self.invariant c.in-Folder.is c.in-Some-get_mut_near.ensures.value c.by.ensures in
     let d = same_first c.in-Some.first.now c.in-Some-split_first.other.now c.in-Some-split_first.dst_rest c.args.dst.now c.if-ne.ensures c.in-Some-split_first.ensures.some in
-    on_ok c.rename-2.result (applies_further c.args.self.now (dir_rows (with_child c.in-Folder.children c.by.result c.rename-2.new.self)) c.in-Some-get_mut.child.now c.rename-2.new.self c.in-Some.first.now c.in-Some.src_rest c.in-Some-split_first.dst_rest c.args.src.now c.args.dst.now c.in-Some.ensures.some d s) c.rename-2.ensures.applies
+    on_ok c.rename-2.result (applies_further c.args.self.now (dir_rows (with_child c.in-Folder.children c.by.result c.rename-2.new.self)) c.in-Some-get_mut_near.child.now c.rename-2.new.self c.in-Some.first.now c.in-Some.src_rest c.in-Some-split_first.dst_rest c.args.src.now c.args.dst.now c.in-Some.ensures.some d s) c.rename-2.ensures.applies
 
 pub returns-clause-free : goal.returns-clause-free
 returns-clause-free t c =
-    let s = folder_step c.args.self.now c.self.inside.node c.in-Folder.children c.in-Some.first.now c.by.result c.in-Some-get_mut.child.now c.rename-2.new.self c.self.view_is c.self.invariant c.in-Folder.is c.in-Some-get_mut.ensures.value c.by.ensures in
+    let s = folder_step c.args.self.now c.self.inside.node c.in-Folder.children c.in-Some.first.now c.by.result c.in-Some-get_mut_near.child.now c.rename-2.new.self c.self.view_is c.self.invariant c.in-Folder.is c.in-Some-get_mut_near.ensures.value c.by.ensures in
     let d = same_first c.in-Some.first.now c.in-Some-split_first.other.now c.in-Some-split_first.dst_rest c.args.dst.now c.if-ne.ensures c.in-Some-split_first.ensures.some in
-    on_ok c.rename-2.result (subtree_below c.args.self.now c.in-Some-get_mut.child.now c.in-Some.first.now c.in-Some-split_first.dst_rest c.args.dst.now None d s.stands) c.rename-2.ensures.free
+    on_ok c.rename-2.result (subtree_below c.args.self.now c.in-Some-get_mut_near.child.now c.in-Some.first.now c.in-Some-split_first.dst_rest c.args.dst.now None d s.stands) c.rename-2.ensures.free
 
 pub returns-clause-ok : goal.returns-clause-ok
 returns-clause-ok t c =
-    let s = folder_step c.args.self.now c.self.inside.node c.in-Folder.children c.in-Some.first.now c.by.result c.in-Some-get_mut.child.now c.rename-2.new.self c.self.view_is c.self.invariant c.in-Folder.is c.in-Some-get_mut.ensures.value c.by.ensures in
+    let s = folder_step c.args.self.now c.self.inside.node c.in-Folder.children c.in-Some.first.now c.by.result c.in-Some-get_mut_near.child.now c.rename-2.new.self c.self.view_is c.self.invariant c.in-Folder.is c.in-Some-get_mut_near.ensures.value c.by.ensures in
     let d = same_first c.in-Some.first.now c.in-Some-split_first.other.now c.in-Some-split_first.dst_rest c.args.dst.now c.if-ne.ensures c.in-Some-split_first.ensures.some in
-    on_ok c.rename-2.result (renamed_further c.args.self.now (dir_rows (with_child c.in-Folder.children c.by.result c.rename-2.new.self)) c.in-Some-get_mut.child.now c.rename-2.new.self c.in-Some.first.now c.in-Some.src_rest c.in-Some-split_first.dst_rest c.args.src.now c.args.dst.now c.in-Some.ensures.some d s) c.rename-2.ensures.ok
+    on_ok c.rename-2.result (renamed_further c.args.self.now (dir_rows (with_child c.in-Folder.children c.by.result c.rename-2.new.self)) c.in-Some-get_mut_near.child.now c.rename-2.new.self c.in-Some.first.now c.in-Some.src_rest c.in-Some-split_first.dst_rest c.args.src.now c.args.dst.now c.in-Some.ensures.some d s) c.rename-2.ensures.ok
 
 pub returns-clause-err : goal.returns-clause-err
 returns-clause-err t c =
-    let s = folder_step c.args.self.now c.self.inside.node c.in-Folder.children c.in-Some.first.now c.by.result c.in-Some-get_mut.child.now c.rename-2.new.self c.self.view_is c.self.invariant c.in-Folder.is c.in-Some-get_mut.ensures.value c.by.ensures in
+    let s = folder_step c.args.self.now c.self.inside.node c.in-Folder.children c.in-Some.first.now c.by.result c.in-Some-get_mut_near.child.now c.rename-2.new.self c.self.view_is c.self.invariant c.in-Folder.is c.in-Some-get_mut_near.ensures.value c.by.ensures in
     on_err c.rename-2.result s.same c.rename-2.ensures.err
 
 pub returns-clause-order : goal.returns-clause-order
 returns-clause-order t c =
-    let s = folder_step c.args.self.now c.self.inside.node c.in-Folder.children c.in-Some.first.now c.by.result c.in-Some-get_mut.child.now c.rename-2.new.self c.self.view_is c.self.invariant c.in-Folder.is c.in-Some-get_mut.ensures.value c.by.ensures in
+    let s = folder_step c.args.self.now c.self.inside.node c.in-Folder.children c.in-Some.first.now c.by.result c.in-Some-get_mut_near.child.now c.rename-2.new.self c.self.view_is c.self.invariant c.in-Folder.is c.in-Some-get_mut_near.ensures.value c.by.ensures in
     s.order c.rename-2.ensures.order
 
 pub returns-in-Narrow-clause-applies : goal.returns-in-Narrow-clause-applies
@@ -69,6 +69,6 @@ invariant_of-self-in-Narrow t c =
 
 pub invariant_of-self-2 : goal.invariant_of-self-2
 invariant_of-self-2 t c =
-    let s = folder_step c.args.self.now c.self.inside.node c.in-Folder.children c.in-Some.first.now c.by.result c.in-Some-get_mut.child.now c.rename-2.new.self c.self.view_is c.self.invariant c.in-Folder.is c.in-Some-get_mut.ensures.value c.by.ensures in
-    let b = written c.in-Folder.children c.by.result c.in-Some-get_mut.child.now c.rename-2.new.self c.in-Some-get_mut.ensures.value c.in-Some-get_mut.ensures.ordered in
+    let s = folder_step c.args.self.now c.self.inside.node c.in-Folder.children c.in-Some.first.now c.by.result c.in-Some-get_mut_near.child.now c.rename-2.new.self c.self.view_is c.self.invariant c.in-Folder.is c.in-Some-get_mut_near.ensures.value c.by.ensures in
+    let b = written c.in-Folder.children c.by.result c.in-Some-get_mut_near.child.now c.rename-2.new.self c.in-Some-get_mut_near.ensures.value c.in-Some-get_mut_near.ensures.ordered in
     (b.ordered, s.order c.rename-2.ensures.order)

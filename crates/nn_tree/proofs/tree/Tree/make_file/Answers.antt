@@ -1,0 +1,7 @@
+use Rattle.nn_tree.specs.Changes.{open_file}
+use Rattle.nn_tree.proofs.Walk.{ok_then}
+use Rattle.nn_tree.proofs.Descent.{made_end}
+use Rattle.nn_tree.proofs.tree.Tree.make_file.Goals as goal
+
+pub returns-clause-ok : goal.returns-clause-ok
+returns-clause-ok c = ok_then c.change_at.result (λ given. made_end c.args.self.now c.change_at.new.self (open_file c.args.replication) c.args.names.now) c.change_at.ensures.changed

@@ -36,16 +36,6 @@ pub(crate) fn find<K: Ord, V, Q: Seek<K>>(
     if let Some(end) = find_at_end(chunks, key) {
         return end;
     }
-    search(chunks, key)
-}
-
-// The same, by halves alone.
-fn search<K: Ord, V, Q: Seek<K>>(chunks: &[Vec<(K, V)>], key: Q) -> (usize, Result<usize, usize>)
-    requires filled { AreFilled chunks.now }
-    requires order { IsStrictlySortedBy K.cmp (keys_of (flat chunks.now)) }
-    ensures found { IfOk result.1 (IsFound (Q.order key) chunks.now result.0) }
-    ensures absent { IfErr result.1 (IsAbsent (Q.order key) chunks.now result.0) }
-{
     if chunks.len() == 1 {
         return (0, place_in(&chunks[0], key));
     }
@@ -104,7 +94,7 @@ pub(crate) fn find_near<K: Ord, V, Q: Seek<K>>(
     if stands(chunks, chunk, place, key) {
         return (chunk, Ok(place));
     }
-    let (chunk, place) = search(chunks, key);
+    let (chunk, place) = find(chunks, key);
     if let Ok(place) = place {
         *recent = chunk.wrapping_mul(FULL).wrapping_add(place);
     }
@@ -112,7 +102,12 @@ pub(crate) fn find_near<K: Ord, V, Q: Seek<K>>(
 }
 
 // Whether an entry of the key stands at this place.
-fn stands<K: Ord, V, Q: Seek<K>>(chunks: &[Vec<(K, V)>], chunk: usize, place: usize, key: Q) -> bool
+fn stands<K: Ord, V, Q: Seek<K>>(
+    chunks: &[Vec<(K, V)>],
+    chunk: usize,
+    place: usize,
+    key: Q,
+) -> bool
     requires { IsStrictlySortedBy K.cmp (keys_of (flat chunks.now)) }
     ensures { result ≡ true → IsFound (Q.order key) chunks.now chunk place }
 {

@@ -175,9 +175,11 @@ taken_end es new x p (prefix, rest, t, w, r, g, m) = (
   graft_end es new t w p prefix rest None r g m.2,
 )
 
-pub put_end : (es new x : Rows) (p : Path) → IsChangedAt es p new (λ rest t w. (rest ≡ []) × (w ≡ x)) → IsGrafted es p (Some x) new
-put_end es new x p (prefix, rest, t, w, r, g, (none, is)) =
-    graft_end es new t w p prefix rest (Some x) r g (subst (λ (s : Path). IsGrafted t s (Some x) w) (sym none) (λ q. ap (λ u. at u q) is))
+pub put_end : (es new x y : Rows) (p : Path) → IsChangedAt es p new (λ rest t w. (rest ≡ []) × (y ≡ t) × (w ≡ x)) → IsSubtree es p (Some y) × IsGrafted es p (Some x) new
+put_end es new x y p (prefix, rest, t, w, r, g, (none, was, is)) = (
+  (λ q. at_end es t p prefix rest r q ∙ ap (λ s. at t (s ++ q)) none ∙ ap (λ u. at u q) (sym was)),
+  graft_end es new t w p prefix rest (Some x) r g (subst (λ (s : Path). IsGrafted t s (Some x) w) (sym none) (λ q. ap (λ u. at u q) is)),
+)
 
 -- ---- where nothing was changed
 

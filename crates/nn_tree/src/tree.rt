@@ -301,7 +301,7 @@ impl Tree {
             return Err(Unchanged);
         };
         let _found = tree.top();
-        self.put(dst, tree);
+        let _placeholder = self.put(dst, tree);
         self.recall_invariant();
         Ok(())
     }

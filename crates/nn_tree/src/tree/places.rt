@@ -71,14 +71,16 @@ impl Tree {
         Some(tree)
     }
 
-    /// Puts a tree in place of what stands at the path.
-    pub(crate) fn put(&mut self, names: &Names<'_>, tree: Tree)
+    /// Puts a tree in place of what stands at the path, and gives that back.
+    pub(crate) fn put(&mut self, names: &Names<'_>, tree: Tree) -> Tree
         requires { IsSome (at self.old names.now) }
-        ensures { IsGrafted self.old names.now (Some tree) self.new }
+        ensures old { IsSubtree self.old names.now (Some result) }
+        ensures new { IsGrafted self.old names.now (Some tree) self.new }
     {
-        let Ok(()) = self.change_at(names, Put { tree }) else {
+        let Ok(before) = self.change_at(names, Put { tree }) else {
             unreachable!()
         };
+        before
     }
 
     // Puts a tree into a directory, under a name that no child has.
@@ -292,11 +294,11 @@ struct Put {
 }
 
 impl Change for Put {
-    type Gives = ();
+    type Gives = Tree;
 
     ghost in_parent = { false };
 
-    ghost changes = { λ c rest t w given. (rest ≡ []) × (w ≡ c.tree) };
+    ghost changes = { λ c rest t w given. (rest ≡ []) × (given ≡ t) × (w ≡ c.tree) };
 
     ghost refuses = { λ c rest t. ⊥ };
 
@@ -304,9 +306,8 @@ impl Change for Put {
         false
     }
 
-    fn change(self, tree: &mut Tree, _last: Option<&str>) -> Result<(), Unchanged> {
+    fn change(self, tree: &mut Tree, _last: Option<&str>) -> Result<Tree, Unchanged> {
         self.tree.recall_invariant();
-        let _before = mem::replace(tree, self.tree);
-        Ok(())
+        Ok(mem::replace(tree, self.tree))
     }
 }

@@ -1,4 +1,4 @@
-use Rattle.std.proofs.Common.{◌+◌, length, ltb-false, eqb-true, refl, sym, arith}
+use Rattle.std.proofs.Common.{◌≡◌, ◌+◌, length, ltb-false, eqb-true, refl, sym, arith}
 use Rattle.std.proofs.lemmas.Option.{slice_get_read}
 use Rattle.nn_sorted.proofs.Changes.{past_end, at_last_end, has_more}
 use Rattle.nn_sorted.proofs.chunks.begins_chunk.Goals as goal

@@ -16,8 +16,8 @@ returns-in_default-take-clause-err c =
     made_undone (at c.args.self.now) (at c.make_dir.new.self) (at c.take.new.self) (at c.take-placeholder.new.self) _ c.args.src.now c.args.dst.now c.in-Ok.ensures.ok.1 c.in-Ok.ensures.ok.2
     c.in_default-take.ensures.taken c.take.ensures.gone c.take-placeholder.ensures.gone
 
-pub put-requires : goal.put-requires
-put-requires c =
+pub put-placeholder-requires : goal.put-placeholder-requires
+put-placeholder-requires c =
     let s = c.args.src.now in
     let d = c.args.dst.now in
     let found = at_found c.make_dir.new.self c.in-Some.tree s _ c.in-Some.ensures.taken c.top-found.ensures in
@@ -44,5 +44,5 @@ returns-clause-ok c =
     let lawful : rename_fault (at c.args.self.now) s d ≡ None =
     move_applies (at c.args.self.now) (at c.make_dir.new.self) s d (apart_named c.args.src.now c.args.dst.now c.requires) c.requires c.in-Ok.ensures.ok.0
     c.in-Ok.ensures.ok.2 (subst IsSome (sym found) refl) c.in-Some.ensures.walked in
-    moves (at c.args.self.now) (at c.make_dir.new.self) (at c.take.new.self) (at c.put.new.self) s d _ (at c.in-Some.tree)
-    (can_move _ _ _ lawful c.in-Ok.ensures.ok.1) c.in-Ok.ensures.ok.2 c.in-Some.ensures.taken c.take.ensures.gone c.put.ensures
+    moves (at c.args.self.now) (at c.make_dir.new.self) (at c.take.new.self) (at c.put-placeholder.new.self) s d _ (at c.in-Some.tree)
+    (can_move _ _ _ lawful c.in-Ok.ensures.ok.1) c.in-Ok.ensures.ok.2 c.in-Some.ensures.taken c.take.ensures.gone c.put-placeholder.ensures.new

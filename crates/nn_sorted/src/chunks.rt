@@ -102,12 +102,7 @@ pub(crate) fn find_near<K: Ord, V, Q: Seek<K>>(
 }
 
 // Whether an entry of the key stands at this place.
-fn stands<K: Ord, V, Q: Seek<K>>(
-    chunks: &[Vec<(K, V)>],
-    chunk: usize,
-    place: usize,
-    key: Q,
-) -> bool
+fn stands<K: Ord, V, Q: Seek<K>>(chunks: &[Vec<(K, V)>], chunk: usize, place: usize, key: Q) -> bool
     requires { IsStrictlySortedBy K.cmp (keys_of (flat chunks.now)) }
     ensures { result ≡ true → IsFound (Q.order key) chunks.now chunk place }
 {

@@ -78,10 +78,7 @@ impl Namespace {
         let Some(sizes) = self.sizes.with_file() else {
             return Err(Unchanged);
         };
-        let Ok(()) = self
-            .root
-            .make_file(self.alloc, &path.names(), replication)
-        else {
+        let Ok(()) = self.root.make_file(self.alloc, &path.names(), replication) else {
             return Err(Unchanged);
         };
         self.sizes = sizes;

@@ -10,7 +10,7 @@ use Rattle.clap.specs.declared.parser.matches.Found.{Found}
 use Rattle.clap.proofs.OnLiterals.{clap_on_literals}
 use Rattle.clap.proofs.WalkLemmas.{one_text-rows}
 use Rattle.nn_types.specs.Settings.{Settings}
-use Rattle.nn_command.specs.Options.{settings_line, lanes_line, command_line, AreReadAs, AskAs, AskFor, IsCapacity, IsFlag, IsNumberOf, IsRequest, is_contradictory}
+use Rattle.nn_command.specs.Options.{settings_line, lanes_line, command_line, AreReadAs, AskAs, AskFor, IsCapacity, IsFlag, IsNumberOf, IsRequest, ReadsAs, is_contradictory}
 use Rattle.nn_command.specs.Program.{WhyNot}
 use Rattle.nn_command.specs.declared.options.Request.{Request}
 
@@ -24,16 +24,21 @@ line_is_free = refl
 
 -- the texts that were found under the names are those that the arguments have there
 pub asked_as_found : (arguments : List Text) (found : Found) (settings : Settings) → rows_of found ≡ matches_of command_line arguments →
-    AreReadAs (one_text found (codes "permille")) (one_text found (codes "min")) (one_text found (codes "capacity")) settings → AskFor arguments settings
+    AreReadAs (one_text found (codes "permille")) (one_text found (codes "min")) (one_text found (codes "datanodes")) (one_text found (codes "capacity")) settings → AskFor arguments settings
 asked_as_found arguments found settings rows read =
     let at : (name : Text) → one_text found name ≡ one_of name (matches_of command_line arguments) = λ name. one_text-rows found name ∙ ap (one_of name) rows in
-    subst (λ (o : Option Text). AreReadAs o (one_of (codes "min") (matches_of command_line arguments)) (one_of (codes "capacity") (matches_of command_line arguments)) settings) (at (codes "permille"))
-    (subst (λ (o : Option Text). AreReadAs (one_text found (codes "permille")) o (one_of (codes "capacity") (matches_of command_line arguments)) settings) (at (codes "min"))
-    (subst (λ (o : Option Text). AreReadAs (one_text found (codes "permille")) (one_text found (codes "min")) o settings) (at (codes "capacity")) read))
+    record {
+      permille = subst (λ (o : Option Text). ReadsAs o settings.permille) (at (codes "permille")) read.permille;
+      min = subst (λ (o : Option Text). ReadsAs o settings.min) (at (codes "min")) read.min;
+      lawful = read.lawful;
+      datanodes = (read.datanodes.0, subst (λ (o : Option Text). ReadsAs o read.datanodes.0) (at (codes "datanodes")) read.datanodes.1, read.datanodes.2);
+      capacity = (read.capacity.0, subst (λ (o : Option Text). IsCapacity o read.capacity.0) (at (codes "capacity")) read.capacity.1);
+    }
 
 pub asked_so : (arguments : List Text) (found : Found) (r : Request) → rows_of found ≡ matches_of command_line arguments → IsRequest (one_text found) r → AskAs arguments r
 asked_so arguments found r rows read =
     let at : (name : Text) → one_text found name ≡ one_of name (matches_of command_line arguments) = λ name. one_text-rows found name ∙ ap (one_of name) rows in record {
+      datanodes = subst (λ (o : Option Text). ReadsAs o r.options.datanodes) (at (codes "datanodes")) read.datanodes;
       places = subst (λ (o : Option Text). IsCapacity o r.capacity) (at (codes "capacity")) read.places;
       by_lines = subst (λ (o : Option Text). IsFlag o r.live) (at (codes "live")) read.by_lines;
       by_threads = subst (λ (o : Option Text). IsFlag o r.threads) (at (codes "threads")) read.by_threads;
@@ -46,12 +51,16 @@ asked_so arguments found r rows read =
     }
 
 pub found_as_asked : (arguments : List Text) (found : Found) (settings : Settings) → rows_of found ≡ matches_of command_line arguments →
-    AskFor arguments settings → AreReadAs (one_text found (codes "permille")) (one_text found (codes "min")) (one_text found (codes "capacity")) settings
+    AskFor arguments settings → AreReadAs (one_text found (codes "permille")) (one_text found (codes "min")) (one_text found (codes "datanodes")) (one_text found (codes "capacity")) settings
 found_as_asked arguments found settings rows asked =
     let at : (name : Text) → one_of name (matches_of command_line arguments) ≡ one_text found name = λ name. sym (one_text-rows found name ∙ ap (one_of name) rows) in
-    subst (λ (o : Option Text). AreReadAs o (one_text found (codes "min")) (one_text found (codes "capacity")) settings) (at (codes "permille"))
-    (subst (λ (o : Option Text). AreReadAs (one_of (codes "permille") (matches_of command_line arguments)) o (one_text found (codes "capacity")) settings) (at (codes "min"))
-    (subst (λ (o : Option Text). AreReadAs (one_of (codes "permille") (matches_of command_line arguments)) (one_of (codes "min") (matches_of command_line arguments)) o settings) (at (codes "capacity")) asked))
+    record {
+      permille = subst (λ (o : Option Text). ReadsAs o settings.permille) (at (codes "permille")) asked.permille;
+      min = subst (λ (o : Option Text). ReadsAs o settings.min) (at (codes "min")) asked.min;
+      lawful = asked.lawful;
+      datanodes = (asked.datanodes.0, subst (λ (o : Option Text). ReadsAs o asked.datanodes.0) (at (codes "datanodes")) asked.datanodes.1, asked.datanodes.2);
+      capacity = (asked.capacity.0, subst (λ (o : Option Text). IsCapacity o asked.capacity.0) (at (codes "capacity")) asked.capacity.1);
+    }
 
 pub why_not : (arguments : List Text) (a : App) (e : Error) → a ≡ command_line → HasKind (fault_of a arguments) e → WhyNot arguments (kind_of e)
 why_not arguments a e line (inl memory) = inl memory
@@ -64,7 +73,7 @@ no_version : InvalidValue ≡ DisplayVersion → ⊥
 no_version e = absurd (cc)
 
 pub out_of_range : (arguments : List Text) (found : Found) (e : Error) → rows_of found ≡ matches_of command_line arguments →
-    ((settings : Settings) → AreReadAs (one_text found (codes "permille")) (one_text found (codes "min")) (one_text found (codes "capacity")) settings → ⊥) →
+    ((settings : Settings) → AreReadAs (one_text found (codes "permille")) (one_text found (codes "min")) (one_text found (codes "datanodes")) (one_text found (codes "capacity")) settings → ⊥) →
     (kind_of e ≡ InvalidValue) ⊎ (kind_of e ≡ OutOfMemory) → WhyNot arguments (kind_of e)
 out_of_range arguments found e rows none (inl invalid) =
     inr (inr ((λ help. no_help (sym invalid ∙ help)), (λ version. no_version (sym invalid ∙ version)), inl (λ settings asked. none settings (found_as_asked arguments found settings rows asked))))

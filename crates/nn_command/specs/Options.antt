@@ -1,5 +1,5 @@
 -- The command line, and what its arguments ask for.
-use Rattle.std.specs.Prelude.{◌≡◌, ◌<◌, ◌≤◌, ◌^◌, ℕ, Bool, true, false, pos, List, [], ◌∷◌, Option, Some, None, codes, is_some, ◌&&◌, ◌||◌}
+use Rattle.std.specs.Prelude.{◌≡◌, ◌<◌, ◌≤◌, ◌^◌, ℕ, Bool, true, false, pos, List, [], ◌∷◌, Option, Some, None, codes, is_some, nat_lt, ◌&&◌, ◌||◌}
 use Rattle.std.specs.Str.Parse.{IsNumeral, digits_value, without_leading_plus}
 use Rattle.clap.specs.Simple.{on_top}
 use Rattle.clap.specs.Words.{App, Rule, Text, matches_of, new_app, new_rule, one_of, with_rule}
@@ -7,7 +7,7 @@ use Rattle.clap.specs.declared.builder.action.ArgAction.TheVariants.{Set, SetTru
 use Rattle.clap.specs.declared.builder.value_parser.ValueParser.{ValueParser}
 use Rattle.clap.specs.declared.builder.value_parser.ValueParser.TheVariants.{Signed}
 use Rattle.nn_types.specs.Settings.{Settings, AreSettings}
-use Rattle.nn_types.specs.Limits.{max_replication, max_capacity}
+use Rattle.nn_types.specs.Limits.{max_replication, max_datanodes, max_capacity}
 use Rattle.nn_command.specs.declared.options.Request.{Request}
 
 -- `--NAME N`, and the value where the name is not there
@@ -26,11 +26,12 @@ optional_rule name parser = record (new_rule name) { long = Some name; action = 
 abbrev pub the_program : App
 the_program = on_top (λ s. record s { has_version = true }) (new_app (codes "nn_standby"))
 
--- `--permille` with a number from 0 to 1000, and `--min` with one from 1 to 512
+-- `--permille` with a number from 0 to 1000, `--min` with one from 1 to 512, and `--datanodes` with one from 1 to 65,535
 unfoldable pub settings_line : App
 settings_line =
-    with_rule (with_rule the_program (value_rule (codes "permille") (Signed (pos 0) (pos 1000)) (codes "999")))
-    (value_rule (codes "min") (Signed (pos 1) (pos max_replication)) (codes "1"))
+    with_rule (with_rule (with_rule the_program (value_rule (codes "permille") (Signed (pos 0) (pos 1000)) (codes "999")))
+    (value_rule (codes "min") (Signed (pos 1) (pos max_replication)) (codes "1")))
+    (value_rule (codes "datanodes") (Signed (pos 1) (pos max_datanodes)) (codes "256"))
 
 -- and `--capacity`, which may be left out, with a number from 1 to 1024, and `--threads`
 unfoldable pub lanes_line : App
@@ -60,16 +61,19 @@ IsCapacity None (Some n) = ⊥
 IsCapacity (Some text) None = ⊥
 IsCapacity (Some text) (Some n) = ReadsAs (Some text) n × (1 ≤ n) × (n ≤ max_capacity)
 
--- the texts of the options with numbers, `--permille` first, are these settings, and a capacity
-pub record AreReadAs (first second third : Option Text) (settings : Settings) : Type 0 where
-  pub permille : ReadsAs first settings.permille
-  pub min : ReadsAs second settings.min
+-- the texts of `--permille`, `--min`, `--datanodes` and `--capacity` are these settings, a number of DataNodes and a capacity
+pub record AreReadAs (permilles mins nodes places : Option Text) (settings : Settings) : Type 0 where
+  pub permille : ReadsAs permilles settings.permille
+  pub min : ReadsAs mins settings.min
   pub lawful : AreSettings settings.permille settings.min
-  pub capacity : (n : Option ℕ) × IsCapacity third n
+  pub datanodes : (n : ℕ) × ReadsAs nodes n × (1 ≤ n) × (n ≤ max_datanodes)
+  pub capacity : (n : Option ℕ) × IsCapacity places n
 
 -- the arguments ask for these settings, by the texts after the names or by their defaults
 abbrev pub AskFor : List Text → Settings → Type 0
-AskFor arguments = AreReadAs (one_of (codes "permille") (matches_of command_line arguments)) (one_of (codes "min") (matches_of command_line arguments)) (one_of (codes "capacity") (matches_of command_line arguments))
+AskFor arguments =
+    AreReadAs (one_of (codes "permille") (matches_of command_line arguments)) (one_of (codes "min") (matches_of command_line arguments))
+    (one_of (codes "datanodes") (matches_of command_line arguments)) (one_of (codes "capacity") (matches_of command_line arguments))
 
 -- whether a flag is set: its text is `true`, or it is `false` or not there
 abbrev pub IsFlag : Option Text → Bool → Type 0
@@ -78,6 +82,7 @@ IsFlag (Some text) set = (text ≡ codes "true" → set ≡ true) × (text ≡ c
 
 -- beside the settings, the texts after the names are this request
 pub record IsRequest (text_of : Text → Option Text) (r : Request) : Type 0 where
+  pub datanodes : ReadsAs (text_of (codes "datanodes")) r.options.datanodes
   pub places : IsCapacity (text_of (codes "capacity")) r.capacity
   pub by_threads : IsFlag (text_of (codes "threads")) r.threads
   pub by_lines : IsFlag (text_of (codes "live")) r.live
@@ -92,6 +97,12 @@ pub record IsRequest (text_of : Text → Option Text) (r : Request) : Type 0 whe
 abbrev pub AskAs : List Text → Request → Type 0
 AskAs arguments = IsRequest (λ name. one_of name (matches_of command_line arguments))
 
--- a service has no threads, and prints nothing more at its end
+-- as many DataNodes may report where each has a thread of its own
+abbrev pub max_threads : ℕ
+max_threads = 4096
+
+-- a service has no threads, and prints nothing more at its end; and there are no more threads than that
 abbrev pub is_contradictory : Request → Bool
-is_contradictory r = r.live && (r.threads || r.options.summary || r.options.unsafe_blocks || r.options.image || is_some r.capacity)
+is_contradictory r =
+    (r.live && (r.threads || r.options.summary || r.options.unsafe_blocks || r.options.image || is_some r.capacity))
+    || (r.threads && nat_lt max_threads r.options.datanodes)

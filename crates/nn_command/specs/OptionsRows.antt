@@ -9,33 +9,33 @@ abbrev line : List Text → List Text
 line arguments = codes "nn_standby" ∷ arguments
 
 abbrev matched : List Text → List (Option Text)
-matched arguments = map (λ name. one_of name (matches_of command_line (line arguments))) (codes "permille" ∷ codes "min" ∷ codes "capacity" ∷ codes "threads" ∷ codes "history" ∷ codes "summary" ∷ codes "unsafe" ∷ codes "image" ∷ codes "from-image" ∷ codes "live" ∷ codes "explain" ∷ [])
+matched arguments = map (λ name. one_of name (matches_of command_line (line arguments))) (codes "permille" ∷ codes "min" ∷ codes "datanodes" ∷ codes "capacity" ∷ codes "threads" ∷ codes "history" ∷ codes "summary" ∷ codes "unsafe" ∷ codes "image" ∷ codes "from-image" ∷ codes "live" ∷ codes "explain" ∷ [])
 
-some_numbers : matched (codes "--min" ∷ codes "2" ∷ codes "--permille=1000" ∷ codes "--threads" ∷ codes "--image" ∷ codes "--capacity" ∷ codes "7" ∷ []) ≡ Some (codes "1000") ∷ Some (codes "2") ∷ Some (codes "7") ∷ Some (codes "true") ∷ Some (codes "false") ∷ Some (codes "false") ∷ Some (codes "false") ∷ Some (codes "true") ∷ Some (codes "false") ∷ Some (codes "false") ∷ None ∷ []
+some_numbers : matched (codes "--min" ∷ codes "2" ∷ codes "--permille=1000" ∷ codes "--threads" ∷ codes "--image" ∷ codes "--capacity" ∷ codes "7" ∷ []) ≡ Some (codes "1000") ∷ Some (codes "2") ∷ Some (codes "256") ∷ Some (codes "7") ∷ Some (codes "true") ∷ Some (codes "false") ∷ Some (codes "false") ∷ Some (codes "false") ∷ Some (codes "true") ∷ Some (codes "false") ∷ Some (codes "false") ∷ None ∷ []
 unfolding clap_on_literals settings_line lanes_line command_line
 some_numbers = refl
 
-defaults : matched [] ≡ Some (codes "999") ∷ Some (codes "1") ∷ None ∷ Some (codes "false") ∷ Some (codes "false") ∷ Some (codes "false") ∷ Some (codes "false") ∷ Some (codes "false") ∷ Some (codes "false") ∷ Some (codes "false") ∷ None ∷ []
+defaults : matched [] ≡ Some (codes "999") ∷ Some (codes "1") ∷ Some (codes "256") ∷ None ∷ Some (codes "false") ∷ Some (codes "false") ∷ Some (codes "false") ∷ Some (codes "false") ∷ Some (codes "false") ∷ Some (codes "false") ∷ Some (codes "false") ∷ None ∷ []
 unfolding clap_on_literals settings_line lanes_line command_line
 defaults = refl
 
-what_more_is_printed : matched (codes "--unsafe" ∷ codes "--summary" ∷ []) ≡ Some (codes "999") ∷ Some (codes "1") ∷ None ∷ Some (codes "false") ∷ Some (codes "false") ∷ Some (codes "true") ∷ Some (codes "true") ∷ Some (codes "false") ∷ Some (codes "false") ∷ Some (codes "false") ∷ None ∷ []
+what_more_is_printed : matched (codes "--unsafe" ∷ codes "--summary" ∷ []) ≡ Some (codes "999") ∷ Some (codes "1") ∷ Some (codes "256") ∷ None ∷ Some (codes "false") ∷ Some (codes "false") ∷ Some (codes "true") ∷ Some (codes "true") ∷ Some (codes "false") ∷ Some (codes "false") ∷ Some (codes "false") ∷ None ∷ []
 unfolding clap_on_literals settings_line lanes_line command_line
 what_more_is_printed = refl
 
-a_history : matched (codes "--history" ∷ []) ≡ Some (codes "999") ∷ Some (codes "1") ∷ None ∷ Some (codes "false") ∷ Some (codes "true") ∷ Some (codes "false") ∷ Some (codes "false") ∷ Some (codes "false") ∷ Some (codes "false") ∷ Some (codes "false") ∷ None ∷ []
+a_history : matched (codes "--history" ∷ []) ≡ Some (codes "999") ∷ Some (codes "1") ∷ Some (codes "256") ∷ None ∷ Some (codes "false") ∷ Some (codes "true") ∷ Some (codes "false") ∷ Some (codes "false") ∷ Some (codes "false") ∷ Some (codes "false") ∷ Some (codes "false") ∷ None ∷ []
 unfolding clap_on_literals settings_line lanes_line command_line
 a_history = refl
 
-from_an_image : matched (codes "--from-image" ∷ codes "--image" ∷ []) ≡ Some (codes "999") ∷ Some (codes "1") ∷ None ∷ Some (codes "false") ∷ Some (codes "false") ∷ Some (codes "false") ∷ Some (codes "false") ∷ Some (codes "true") ∷ Some (codes "true") ∷ Some (codes "false") ∷ None ∷ []
+from_an_image : matched (codes "--from-image" ∷ codes "--image" ∷ []) ≡ Some (codes "999") ∷ Some (codes "1") ∷ Some (codes "256") ∷ None ∷ Some (codes "false") ∷ Some (codes "false") ∷ Some (codes "false") ∷ Some (codes "false") ∷ Some (codes "true") ∷ Some (codes "true") ∷ Some (codes "false") ∷ None ∷ []
 unfolding clap_on_literals settings_line lanes_line command_line
 from_an_image = refl
 
-a_service : matched (codes "--live" ∷ codes "--min" ∷ codes "2" ∷ []) ≡ Some (codes "999") ∷ Some (codes "2") ∷ None ∷ Some (codes "false") ∷ Some (codes "false") ∷ Some (codes "false") ∷ Some (codes "false") ∷ Some (codes "false") ∷ Some (codes "false") ∷ Some (codes "true") ∷ None ∷ []
+a_service : matched (codes "--live" ∷ codes "--min" ∷ codes "2" ∷ []) ≡ Some (codes "999") ∷ Some (codes "2") ∷ Some (codes "256") ∷ None ∷ Some (codes "false") ∷ Some (codes "false") ∷ Some (codes "false") ∷ Some (codes "false") ∷ Some (codes "false") ∷ Some (codes "false") ∷ Some (codes "true") ∷ None ∷ []
 unfolding clap_on_literals settings_line lanes_line command_line
 a_service = refl
 
-an_explanation : matched (codes "--explain" ∷ codes "29" ∷ codes "--history" ∷ []) ≡ Some (codes "999") ∷ Some (codes "1") ∷ None ∷ Some (codes "false") ∷ Some (codes "true") ∷ Some (codes "false") ∷ Some (codes "false") ∷ Some (codes "false") ∷ Some (codes "false") ∷ Some (codes "false") ∷ Some (codes "29") ∷ []
+an_explanation : matched (codes "--explain" ∷ codes "29" ∷ codes "--history" ∷ []) ≡ Some (codes "999") ∷ Some (codes "1") ∷ Some (codes "256") ∷ None ∷ Some (codes "false") ∷ Some (codes "true") ∷ Some (codes "false") ∷ Some (codes "false") ∷ Some (codes "false") ∷ Some (codes "false") ∷ Some (codes "false") ∷ Some (codes "29") ∷ []
 unfolding clap_on_literals settings_line lanes_line command_line
 an_explanation = refl
 
@@ -65,6 +65,15 @@ capacities_taken : map (λ n. takes command_line (line (codes "--capacity" ∷ n
     ≡ false ∷ true ∷ true ∷ false ∷ []
 unfolding clap_on_literals settings_line lanes_line command_line
 capacities_taken = refl
+
+datanodes_taken : map (λ n. takes command_line (line (codes "--datanodes" ∷ n ∷ []))) (codes "0" ∷ codes "1" ∷ codes "65535" ∷ codes "65536" ∷ [])
+    ≡ false ∷ true ∷ true ∷ false ∷ []
+unfolding clap_on_literals settings_line lanes_line command_line
+datanodes_taken = refl
+
+some_datanodes : map (λ name. one_of name (matches_of command_line (line (codes "--datanodes" ∷ codes "3000" ∷ [])))) (codes "datanodes" ∷ []) ≡ Some (codes "3000") ∷ []
+unfolding clap_on_literals settings_line lanes_line command_line
+some_datanodes = refl
 
 nothing_else : map (λ arguments. takes command_line (line arguments)) ([] ∷ (codes "word" ∷ []) ∷ (codes "--most" ∷ codes "1" ∷ []) ∷ (codes "--min" ∷ []) ∷ [])
     ≡ true ∷ false ∷ false ∷ false ∷ []

@@ -85,7 +85,7 @@ WritesOutput given output output' ended told =
 
 -- a service is asked for what these options say, and has the version of the program
 pub record AsksFor (options : RunOptions) (o : LiveOptions) : Type 0 where
-  pub asked : asked_by o ≡ record { permille = options.settings.permille; min = options.settings.min; history = options.history; version = VERSION.now }
+  pub asked : asked_by o ≡ record { permille = options.settings.permille; min = options.settings.min; datanodes = options.datanodes; history = options.history; version = VERSION.now }
   pub from_image : o.from_image ≡ options.from_image
 
 -- an output of a service, and the status that goes with it; or a prefix of one, and the status 1

@@ -1,5 +1,5 @@
 -- What texts are read as, and what the program did to its streams, on small examples.
-use Rattle.std.specs.Prelude.{◌≡◌, ◌<◌, ◌≤◌, ◌∷◌, [], ◌++◌, ℕ, Bool, true, false, List, length, Option, Some, None, Ok, codes, refl}
+use Rattle.std.specs.Prelude.{◌≡◌, ◌<◌, ◌≤◌, ◌∷◌, [], ◌++◌, ℕ, Bool, true, false, List, length, map, Option, Some, None, Ok, codes, refl}
 use Rattle.std.proofs.Common.{arith, sym, ap, subst, inl, inr, lit<, ⊎_elim, true≢false}
 use Rattle.nn_device.specs.Device.{Reader, Writer}
 use Rattle.clap.proofs.OnLiterals.{clap_on_literals}
@@ -67,21 +67,28 @@ not_none_where_some_are_said h = h
 abbrev usual : Settings
 usual = record { permille = 999; min = 1 }
 
-as_settings : (third : Option Text) (n : Option ℕ) → IsCapacity third n → AreReadAs (Some (codes "999")) (Some (codes "1")) third usual
+as_settings : (third : Option Text) (n : Option ℕ) → IsCapacity third n → AreReadAs (Some (codes "999")) (Some (codes "1")) (Some (codes "256")) third usual
 as_settings third n is = record {
   permille = ((omega arith, (lit< tt, (lit< tt, (lit< tt, tt)))), refl);
   min = ((omega arith, (lit< tt, tt)), refl);
   lawful = record { most = omega arith; from_one = omega arith; to_limit = omega arith };
+  datanodes = (256, ((omega arith, (lit< tt, (lit< tt, (lit< tt, tt)))), refl), omega arith, omega arith);
   capacity = (n, is);
 }
 
-not_the_other_way_round : AreReadAs (Some (codes "1")) (Some (codes "999")) (Some (codes "64")) usual → ⊥
+not_the_other_way_round : AreReadAs (Some (codes "1")) (Some (codes "999")) (Some (codes "256")) (Some (codes "64")) usual → ⊥
 not_the_other_way_round h = let e : 1 ≡ 999 = h.permille.1 in omega (arith, e)
 
-not_another_min : AreReadAs (Some (codes "999")) (Some (codes "2")) (Some (codes "64")) usual → ⊥
+not_with_no_datanodes : AreReadAs (Some (codes "999")) (Some (codes "1")) (Some (codes "0")) (Some (codes "64")) usual → ⊥
+not_with_no_datanodes h =
+    let read : 0 ≡ h.datanodes.0 = h.datanodes.1.1 in
+    let some : 1 ≤ h.datanodes.0 = h.datanodes.2 in
+    omega (arith, read, some)
+
+not_another_min : AreReadAs (Some (codes "999")) (Some (codes "2")) (Some (codes "256")) (Some (codes "64")) usual → ⊥
 not_another_min h = let e : 2 ≡ 1 = h.min.1 in omega (arith, e)
 
-not_with_no_capacity_of_a_text : AreReadAs (Some (codes "999")) (Some (codes "1")) (Some []) usual → ⊥
+not_with_no_capacity_of_a_text : AreReadAs (Some (codes "999")) (Some (codes "1")) (Some (codes "256")) (Some []) usual → ⊥
 not_with_no_capacity_of_a_text h = none h.capacity.0 h.capacity.1 where
   none : (n : Option ℕ) → IsCapacity (Some []) n → ⊥
   none None h = h
@@ -124,13 +131,16 @@ not_with_an_image r h = true≢false h.with_image
 not_from_an_image : (r : Request) → IsRequest nothing_stands (record r { options = record r.options { from_image = true } }) → ⊥
 not_from_an_image r h = true≢false h.on_from_image
 
+not_with_datanodes : (r : Request) → IsRequest nothing_stands r → ⊥
+not_with_datanodes r h = h.datanodes
+
 not_with_places : (r : Request) → IsRequest nothing_stands (record r { capacity = Some 64 }) → ⊥
 not_with_places r h = h.places
 
 -- what goes together, and what does not
 abbrev asked_for : Bool → Bool → Bool → Option ℕ → Request
 asked_for live threads image capacity = record {
-  options = record { settings = usual; history = false; summary = false; unsafe_blocks = false; image = image; from_image = false; leave_memory = true };
+  options = record { settings = usual; datanodes = 256; history = false; summary = false; unsafe_blocks = false; image = image; from_image = false; leave_memory = true };
   threads = threads;
   live = live;
   capacity = capacity;
@@ -154,6 +164,12 @@ no_service_with_unsafe_blocks r = refl
 
 no_service_with_a_capacity : is_contradictory (asked_for true false false (Some 64)) ≡ true
 no_service_with_a_capacity = refl
+
+no_more_threads : map (λ n. is_contradictory (record (asked_for false true false None) { options = record (asked_for false true false None).options { datanodes = n } })) (4096 ∷ 4097 ∷ []) ≡ false ∷ true ∷ []
+no_more_threads = refl
+
+more_without_threads : is_contradictory (record (asked_for false false false None) { options = record (asked_for false false false None).options { datanodes = 65535 } }) ≡ false
+more_without_threads = refl
 
 a_run_with_all_three : is_contradictory (asked_for false true true (Some 64)) ≡ false
 a_run_with_all_three = refl
@@ -319,7 +335,7 @@ unset = ((λ e. absurd (cc)), (λ e. refl))
 
 usual_asked : AskAs program_alone usual_request
 unfolding clap_on_literals settings_line lanes_line command_line
-usual_asked = record { places = none_said; by_threads = unset; by_lines = unset; with_history = unset; with_summary = unset; with_unsafe = unset; with_image = unset; on_from_image = unset; explains = λ n few h. h }
+usual_asked = record { datanodes = ((omega arith, (lit< tt, (lit< tt, (lit< tt, tt)))), refl); places = none_said; by_threads = unset; by_lines = unset; with_history = unset; with_summary = unset; with_unsafe = unset; with_image = unset; on_from_image = unset; explains = λ n few h. h }
 
 -- the input gives no scenario lines, and its standby has no history
 abbrev printed_for_nothing : Printed

@@ -2,8 +2,8 @@
 ghost use Rattle.std.specs.Prelude.{◌≡◌, ◌≤◌, ◌⊎◌, ℕ, false, Option, IfOk, IfErr, IfSome, IfNone, codes, map, string_bytes};
 ghost use Rattle.clap.specs.Words.{app_of, found_of, kind_of, one_text, rule_of};
 ghost use Rattle.nn_types.specs.Settings.{Settings};
-ghost use Rattle.nn_types.specs.Limits.{max_capacity};
-ghost use Rattle.nn_command.specs.Options.{value_rule, flag_rule, optional_rule, settings_line, lanes_line, command_line, IsNumberOf, IsCapacity, AreReadAs, IsRequest, AskAs, is_contradictory};
+ghost use Rattle.nn_types.specs.Limits.{max_capacity, max_datanodes};
+ghost use Rattle.nn_command.specs.Options.{value_rule, flag_rule, optional_rule, settings_line, lanes_line, command_line, IsNumberOf, IsCapacity, ReadsAs, AreReadAs, IsRequest, AskAs, is_contradictory};
 ghost use Rattle.nn_command.specs.Program.{AreTaken, WhyNot};
 
 use clap::builder::ValueParser;
@@ -11,7 +11,7 @@ use clap::error::ErrorKind;
 use clap::{Arg, ArgAction, ArgMatches, Command, Error, value_parser};
 use nn_run::Options;
 use nn_types::Settings;
-use nn_types::limits::{MAX_CAPACITY, MAX_REPLICATION};
+use nn_types::limits::{MAX_CAPACITY, MAX_DATANODES, MAX_REPLICATION};
 use std::alloc::{AllocError, Global};
 
 /// The version of the program, which README.md names too.
@@ -19,6 +19,12 @@ pub const VERSION: &str = "0.4.0";
 
 /// The greatest value of `--capacity`, as clap takes it.
 const GREATEST_CAPACITY: i64 = MAX_CAPACITY as i64;
+
+/// The greatest value of `--datanodes`, as clap takes it.
+const GREATEST_DATANODES: i64 = MAX_DATANODES as i64;
+
+/// The DataNodes of a run with `--threads`, at most: each gets a thread of its own.
+const MAX_THREADS: u16 = 4096;
 
 /// The greatest value of `--min`, as clap takes it.
 const GREATEST_MIN: i64 = MAX_REPLICATION as i64;
@@ -37,6 +43,9 @@ const PERMILLE: &str =
     "How many blocks of each thousand have to be safe before safe mode ends, 0 to 1000.";
 
 const MIN: &str = "How many live replicas make a block safe, 1 to 512.";
+
+const DATANODES: &str =
+    "How many DataNodes may report: a report of one with a greater number is refused. 1 to 65535; with --threads 4096 at most.";
 
 const THREADS: &str =
     "Lets each DataNode report from a thread of its own. What is printed is the same, except for a history.";
@@ -63,7 +72,7 @@ const LIVE: &str =
     "Serves: takes lines and answers words as they come, until the input ends. Not with --threads, --capacity, --summary, --unsafe or --image.";
 
 const CONTRADICTORY: &str =
-    "--live goes with neither --threads, --capacity, --summary, --unsafe nor --image";
+    "--live goes with neither --threads, --capacity, --summary, --unsafe nor --image, and --threads with --datanodes 4096 at most";
 
 const EXPLAIN: &str =
     "Prints what the fault with this number means and what can be done. It needs no input, and reads none.";
@@ -86,6 +95,7 @@ pub struct Request {
 pub fn parse<'a>(alloc: Global, arguments: &'a [String]) -> Result<Request, Error>
     ensures ok { IfOk result (λ request. AreTaken (map string_bytes arguments.entry.now) request.options.settings) }
     ensures asked { IfOk result (λ request. AskAs (map string_bytes arguments.entry.now) request) }
+    ensures datanodes { IfOk result (λ request. 1 ≤ request.options.datanodes) }
     ensures capacity { IfOk result (λ request. IfSome request.capacity (λ n. (1 ≤ n) × (n ≤ max_capacity))) }
     ensures clear { IfOk result (λ request. is_contradictory request ≡ false) }
     ensures err { IfErr result (λ error. WhyNot (map string_bytes arguments.entry.now) (kind_of error)) }
@@ -106,16 +116,18 @@ pub fn parse<'a>(alloc: Global, arguments: &'a [String]) -> Result<Request, Erro
     Ok(request)
 }
 
-// Whether options stand together that do not go together: a service has no threads, and prints nothing more at its end.
+// Whether options stand together that do not go together: a service has no threads, and prints nothing more at its end; and there
+// are only so many threads.
 fn is_contradictory(request: &Request) -> bool
     ensures { result ≡ is_contradictory request.now }
 {
-    request.live
+    (request.live
         && (request.threads
             || request.options.summary
             || request.options.unsafe_blocks
             || request.options.image
-            || request.capacity.is_some())
+            || request.capacity.is_some()))
+        || (request.threads && request.options.datanodes > MAX_THREADS)
 }
 
 fn contradictory(alloc: Global) -> Error
@@ -159,7 +171,7 @@ fn command<'a>(alloc: Global) -> Result<Command<'a>, Error>
     Ok(command)
 }
 
-// `--permille N`, `--min N`, `--capacity N` and `--threads`.
+// `--permille N`, `--min N`, `--datanodes N`, `--capacity N` and `--threads`.
 fn lanes_command<'a>(alloc: Global) -> Result<Command<'a>, Error>
     ensures { IfOk result (λ command. app_of command ≡ lanes_line) }
 {
@@ -170,18 +182,20 @@ fn lanes_command<'a>(alloc: Global) -> Result<Command<'a>, Error>
     Ok(command)
 }
 
-// The program with its version, `--permille N` and `--min N`.
+// The program with its version, `--permille N`, `--min N` and `--datanodes N`.
 fn settings_command<'a>(alloc: Global) -> Result<Command<'a>, Error>
     ensures { IfOk result (λ command. app_of command ≡ settings_line) }
 {
     let permille = value_parser!(u16).range(0..=1000);
     let min = value_parser!(u16).range(1..=GREATEST_MIN);
+    let datanodes = value_parser!(u16).range(1..=GREATEST_DATANODES);
     let command = Command::new(alloc, "nn_standby")
         .version(VERSION)
         .about(ABOUT)
         .override_usage(USAGE)
         .arg(valued(alloc, "permille", permille, "999", PERMILLE))?
-        .arg(valued(alloc, "min", min, "1", MIN))?;
+        .arg(valued(alloc, "min", min, "1", MIN))?
+        .arg(valued(alloc, "datanodes", datanodes, "256", DATANODES))?;
     Ok(command)
 }
 
@@ -231,18 +245,21 @@ fn optional<'a>(alloc: Global, name: &'a str, parser: ValueParser<'a>, help: &'a
 
 // What was matched, where the numbers are in range.
 fn matched(matches: &ArgMatches<'_>) -> Option<Request>
-    ensures some { IfSome result (λ request. AreReadAs (one_text (found_of matches.now) (codes "permille")) (one_text (found_of matches.now) (codes "min")) (one_text (found_of matches.now) (codes "capacity")) request.options.settings) }
+    ensures some { IfSome result (λ request. AreReadAs (one_text (found_of matches.now) (codes "permille")) (one_text (found_of matches.now) (codes "min")) (one_text (found_of matches.now) (codes "datanodes")) (one_text (found_of matches.now) (codes "capacity")) request.options.settings) }
     ensures asked { IfSome result (λ request. IsRequest (one_text (found_of matches.now)) request) }
+    ensures datanodes { IfSome result (λ request. 1 ≤ request.options.datanodes) }
     ensures capacity { IfSome result (λ request. IfSome request.capacity (λ n. (1 ≤ n) × (n ≤ max_capacity))) }
-    ensures none { IfNone result ((settings : Settings) → AreReadAs (one_text (found_of matches.now) (codes "permille")) (one_text (found_of matches.now) (codes "min")) (one_text (found_of matches.now) (codes "capacity")) settings → ⊥) }
+    ensures none { IfNone result ((settings : Settings) → AreReadAs (one_text (found_of matches.now) (codes "permille")) (one_text (found_of matches.now) (codes "min")) (one_text (found_of matches.now) (codes "datanodes")) (one_text (found_of matches.now) (codes "capacity")) settings → ⊥) }
 {
     let permille = number(matches, "permille")?;
     let min = number(matches, "min")?;
+    let datanodes = datanodes(matches)?;
     let capacity = capacity(matches)?;
     let settings = Settings::new(permille, min)?;
     Some(Request {
         options: Options {
             settings,
+            datanodes,
             history: matches.get_flag("history"),
             summary: matches.get_flag("summary"),
             unsafe_blocks: matches.get_flag("unsafe"),
@@ -255,6 +272,19 @@ fn matched(matches: &ArgMatches<'_>) -> Option<Request>
         capacity,
         explain: fault_number(matches),
     })
+}
+
+// The number under `--datanodes`.
+fn datanodes(matches: &ArgMatches<'_>) -> Option<u16>
+    ensures some { IfSome result (λ n. ReadsAs (one_text (found_of matches.now) (codes "datanodes")) n) }
+    ensures from_one { IfSome result (λ n. 1 ≤ n) }
+    ensures none { IfNone result ((n : ℕ) → ReadsAs (one_text (found_of matches.now) (codes "datanodes")) n → 1 ≤ n → n ≤ max_datanodes → ⊥) }
+{
+    let n = number(matches, "datanodes")?;
+    if n == 0 {
+        return None;
+    }
+    Some(n)
 }
 
 // The number under `--capacity`, where it is there.

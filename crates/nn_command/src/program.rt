@@ -129,7 +129,8 @@ fn run_as_asked<R: Read, W: Write, G: Gate + Send + Sync + Drop, T: Threads + Wa
     output: &mut Writer<W>,
     gate: Arc<G, Global>,
 ) -> RunEnd
-    requires { IfSome request.now.capacity (λ n. (1 ≤ n) × (n ≤ max_capacity)) }
+    requires datanodes { 1 ≤ request.now.options.datanodes }
+    requires capacity { IfSome request.now.capacity (λ n. (1 ≤ n) × (n ≤ max_capacity)) }
     ensures { EndsAsAsked request.now input.old input.new output.old output.new result.status (error_of result.fault) }
 {
     if request.live {
@@ -161,6 +162,7 @@ fn run_service<R: Read, W: Write>(
 {
     let asked = LiveOptions {
         settings: options.settings,
+        datanodes: options.datanodes,
         history: options.history,
         from_image: options.from_image,
         version: VERSION,

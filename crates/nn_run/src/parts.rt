@@ -70,7 +70,7 @@ fn read_lines<R: Read>(
     ensures end { OnOk result (IsAtEnd input.new.left) }
     ensures why { IfErr result (IsLeftUnread max_input (ahead lines.old) input.old input.new) }
 {
-    let mut reading = Reading::new(alloc)?;
+    let mut reading = Reading::new(alloc);
     match follow_lines(alloc, datanodes, lines, input, &mut reading)? {
         Some(bad) => Ok(Err(bad)),
         None => Ok(scenario_of(Ok(reading))),
@@ -82,7 +82,7 @@ fn without_lines(alloc: Global, loaded: Option<Loaded>) -> Result<InputParts, Al
     ensures loaded { IfOk result (λ r. r.loaded ≡ loaded) }
     ensures none { IfOk result (λ r. (datanodes : ℕ) → IsScenarioOf datanodes [] r.lines) }
 {
-    let reading = Reading::new(alloc)?;
+    let reading = Reading::new(alloc);
     let lines = scenario_of(Ok(reading));
     Ok(InputParts { loaded, lines })
 }

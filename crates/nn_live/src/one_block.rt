@@ -134,9 +134,9 @@ pub(crate) fn put_about<W: Write>(
     shadow: &Shadow,
     id: BlockId,
 )
+    requires { Shows (length shadow.now.numbers) shadow.now.namespace shadow.now.table }
     ensures { PutsPiece (about_block (length shadow.now.numbers) (standby_of shadow.now) id) page.old writer.old page.new writer.new }
 {
-    shadow.recall_invariant();
     let table = shadow.replicas();
     put_replicas_of(page, writer, shadow.namespace(), table, id);
     put_orders_of(page, writer, table, id);

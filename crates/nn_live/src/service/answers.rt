@@ -1,5 +1,5 @@
 //! What a service answers.
-ghost use Rattle.std.specs.Prelude.{◌≡◌, ◌≤◌, ◌^◌, ◌++◌, [], List, ℕ, flat_map, map, take, IfErr, IfOk, IsErrOf, OnOk, if◌then◌else◌, nat_le};
+ghost use Rattle.std.specs.Prelude.{◌≡◌, ◌≤◌, ◌^◌, ◌++◌, [], List, ℕ, flat_map, length, map, take, IfErr, IfOk, IsErrOf, OnOk, if◌then◌else◌, nat_le};
 ghost use Rattle.nn_device.specs.Page.{PutsPiece};
 ghost use Rattle.nn_image.specs.Text.{image_text};
 ghost use Rattle.nn_listing.specs.Listing.{listing_text};
@@ -64,7 +64,10 @@ impl Service {
             Word::Path(path) => return self.path(page, writer, path),
             Word::Tables => return self.tables(page, writer),
             Word::Checkpoint => return self.checkpoint(page, writer),
-            Word::Gone(dn) => return self.gone(page, writer, lane_of(self.shadow.lanes(), *dn)),
+            Word::Gone(dn) => {
+                let dn = lane_of(self.shadow.lanes(), *dn);
+                return self.gone(page, writer, dn);
+            }
             Word::Seen(txid) => self.see(*txid),
             Word::Epoch(epoch) => self.name_epoch(*epoch),
             Word::Promote {

@@ -22,15 +22,23 @@ const TURNS: u64 = 200;
 #[derive(Clone, Copy)]
 struct Serving {
     alloc: Global,
-    options: LiveOptions,
+    settings: Settings,
 }
 
 impl Serving {
     // Whether all output was written.
     fn writes(&self, output: &mut Vec<u8>) -> bool {
+        let options = LiveOptions {
+            settings: self.settings,
+            datanodes: DEFAULT_DATANODES,
+            history: true,
+            from_image: false,
+            version: "0",
+            leave_memory: false,
+        };
         let mut input = Reader::new(LINES);
         let mut writer = Writer::new(mem::replace(output, Vec::new(self.alloc)));
-        let end = run_live(self.alloc, &self.options, &mut input, &mut writer);
+        let end = run_live(self.alloc, &options, &mut input, &mut writer);
         *output = writer.into_inner();
         end.is_ok()
     }
@@ -64,17 +72,7 @@ pub fn serve_lines(
     settings: Settings,
     lines: &mut Lines,
 ) -> Result<(), EndFault> {
-    let serving = Serving {
-        alloc,
-        options: LiveOptions {
-            settings,
-            datanodes: DEFAULT_DATANODES,
-            history: true,
-            from_image: false,
-            version: "0",
-            leave_memory: false,
-        },
-    };
+    let serving = Serving { alloc, settings };
     let (output, fates) = play(alloc, is_ample, &serving)?;
     let (undisturbed, others) = play(alloc, true, &serving)?;
     let fates = both(fates, others, output == undisturbed);

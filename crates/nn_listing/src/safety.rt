@@ -73,7 +73,7 @@ impl<'a> ReadyUnsafe<'a> {
         ensures { PutsPiece self.entry page.old writer.old page.new writer.new }
     {
         let min = self.table.min();
-        put_rows(page, writer, self.rows, self.table, min, self.count);
+        put_unsafe_lines(page, writer, self.rows, self.table, min, self.count);
     }
 }
 
@@ -90,11 +90,11 @@ pub fn put_unsafe_rows<W: Write>(
     ensures { (datanodes : ℕ) (n : Namespace) → Shows datanodes n table.now
         → PutsPiece (flat_map (λ l. l) (take most (unsafe_in datanodes min (replica_at table.now) rows.entry.left))) page.old writer.old page.new writer.new }
 {
-    put_rows(page, writer, rows, table, min, most);
+    put_unsafe_lines(page, writer, rows, table, min, most);
 }
 
 // The same, of the live replicas that the table counts.
-fn put_rows<W: Write>(
+fn put_unsafe_lines<W: Write>(
     page: &mut Page,
     writer: &mut Writer<W>,
     mut rows: Rows<'_>,

@@ -1,4 +1,4 @@
-use Rattle.std.proofs.Common.{◌≡◌, ◌<◌, ◌+◌, ◌-◌, List, ℕ, length, subst, ap, arith}
+use Rattle.std.proofs.Common.{◌≡◌, ◌<◌, ◌+◌, ◌-◌, List, ℕ, length, subst, ap, ◌∙◌, arith}
 use Rattle.std.specs.Prelude.{flat_map}
 use Rattle.std.specs.List.{range_with_len}
 use Rattle.nn_device.specs.Page.{PutsAllBut, PutsPiece}
@@ -23,7 +23,10 @@ datanodes-init g c =
     let x = c.args.shadow.now in
     let p = c.args.page.now in
     let w = c.args.writer.now in
-    (omega arith, subst (λ dns. PutsAllBut (all x) (lines x dns) p w p w) (all_datanodes (length x.numbers)) (none_of (all x) p w))
+    (omega arith, subst (λ dns. PutsAllBut (all x) (lines x dns) p w p w) (all_datanodes (length x.numbers) ∙ ap (range_with_len 1) (none_taken (length x.numbers))) (none_of (all x) p w))
+  where
+    none_taken : (k : ℕ) → k ≡ k - 0
+    none_taken k = omega arith
 
 pub datanodes-preserved : goal.datanodes-preserved
 datanodes-preserved g c =

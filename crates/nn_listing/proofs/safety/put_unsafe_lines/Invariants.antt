@@ -5,7 +5,7 @@ use Rattle.nn_replicas.specs.Calls.{live_at}
 use Rattle.nn_tree.specs.Rows.{greatest_depth}
 use Rattle.nn_listing.specs.Kept.{kept_lines}
 use Rattle.nn_listing.specs.Safety.{unsafe_lines}
-use Rattle.nn_listing.proofs.safety.put_rows.Given as goal
+use Rattle.nn_listing.proofs.safety.put_unsafe_lines.Given as goal
 
 -- the lines of the rows that are left are to be put, and there is room for these rows
 abbrev pub invariant-rows : goal.invariant-rows

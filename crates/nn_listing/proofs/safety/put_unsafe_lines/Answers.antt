@@ -11,7 +11,7 @@ use Rattle.nn_listing.specs.Kept.{unsafe_by, kept_lines, kept_after}
 use Rattle.nn_listing.specs.Safety.{unsafe_lines}
 use Rattle.nn_listing.specs.declared.safety.Kept.{Kept}
 use Rattle.nn_listing.proofs.Lives.{first_put, joined}
-use Rattle.nn_listing.proofs.safety.put_rows.Goals as goal
+use Rattle.nn_listing.proofs.safety.put_unsafe_lines.Goals as goal
 
 pub rows-preserved : goal.rows-preserved
 rows-preserved g c =

@@ -11,7 +11,7 @@ use nn_drive::{Running, Served};
 use nn_edits::{Line, Scratch, read_line};
 use nn_listing::{ReadyListing, ReadyTables, write_listing};
 use nn_shadow::Shadow;
-use nn_types::limits::MAX_DATANODES;
+use nn_types::limits::DEFAULT_DATANODES;
 use nn_types::{Message, Report, Settings};
 use service::{DataNode, Failover, promoted};
 use std::alloc::Global;
@@ -27,7 +27,7 @@ fn line_by_line(rt: &HostRuntime) -> Result<()> {
     let Some(settings) = Settings::new(999, 1) else {
         bail!("no settings");
     };
-    let mut shadow = Shadow::new(rt.alloc(), MAX_DATANODES, settings)?;
+    let mut shadow = Shadow::new(rt.alloc(), DEFAULT_DATANODES, settings)?;
     follow(rt, &mut shadow)
 }
 
@@ -41,7 +41,7 @@ fn follow(rt: &HostRuntime, shadow: &mut Shadow) -> Result<()> {
 }
 
 fn take(alloc: Global, scratch: &mut Scratch, line: &[u8], shadow: &mut Shadow) -> Result<()> {
-    match read_line(alloc, scratch, line)? {
+    match read_line(alloc, scratch, DEFAULT_DATANODES, line)? {
         Line::Edit(tx) => shadow.apply(&tx)?,
         Line::Report(report) => hand(shadow, report)?,
     }

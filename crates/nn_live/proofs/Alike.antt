@@ -46,7 +46,7 @@ module _ (asked : LiveSetup) where
 
   all_reports : (own : Bool) (reports : List Report) → IsBlind (hands asked own reports)
   all_reports own [] s = refl
-  all_reports own (r ∷ reports) s = one_report own (message_in_turn s.sent r) (hand_refusal 256 s.phase s.standby (message_in_turn s.sent r)) (λ t. hands asked own reports t) (all_reports own reports) s
+  all_reports own (r ∷ reports) s = one_report own (message_in_turn s.sent r) (hand_refusal asked.datanodes s.phase s.standby (message_in_turn s.sent r)) (λ t. hands asked own reports t) (all_reports own reports) s
 
   one_tx : (tx : Tx) (r : Option ApplyFault) (rest : ServiceState → ServiceState) → IsBlind rest → IsBlind (applies asked tx r rest)
   one_tx tx None rest blind s = alike rest blind _ _ refl
@@ -140,7 +140,7 @@ module _ (asked : LiveSetup) where
 
   word_or_read : (text : List ℕ) (w : Option Word) → IsBlind (takes_word asked text w)
   word_or_read text (Some w) s = word w s
-  word_or_read text None s = read text (either_of_line text) s
+  word_or_read text None s = read text (either_of_line asked.datanodes text) s
 
   line : (text : List ℕ) → IsBlind (takes asked text)
   unfolding takes

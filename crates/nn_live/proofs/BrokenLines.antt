@@ -14,10 +14,10 @@ use Rattle.nn_live.proofs.Reading.{by_kind, line_is, torn_by, torn_is}
 module _ (text : List ℕ) where
   -- as data
   abbrev pub data_step : LiveSetup → ServiceState → ServiceState
-  data_step asked s = takes_read asked text (either_of_line text) s
+  data_step asked s = takes_read asked text (either_of_line asked.datanodes text) s
 
-  pub edit_breaks : (x : Service) (tx : Tx) (told : List ℕ) → either_of_line text ≡ Ok (either.Edit tx) → Breaks (λ asked s. takes_edit asked (record { text = text; tx = tx }) s) x told → Breaks data_step x told
-  edit_breaks x tx told is breaks = same_breaks data_step (λ asked s. takes_edit asked (record { text = text; tx = tx }) s) x told (λ asked s i. ap (λ r. takes_read asked text r s) is) breaks
+  pub edit_breaks : (x : Service) (tx : Tx) (told : List ℕ) → either_of_line (length x.shadow.numbers) text ≡ Ok (either.Edit tx) → Breaks (λ asked s. takes_edit asked (record { text = text; tx = tx }) s) x told → Breaks data_step x told
+  edit_breaks x tx told is breaks = same_breaks data_step (λ asked s. takes_edit asked (record { text = text; tx = tx }) s) x told (λ asked s i. ap (λ r. takes_read asked text r s) (ap (λ (a : LiveSetup). either_of_line a.datanodes text) i.asks ∙ is)) breaks
 
   module _ (x y : Service) (told : List ℕ) (isnt : is_blank text ≡ false) (counted : FollowsStep (λ asked s. counts_line s) x y []) where
     pub word_breaks : (w : Word) → word_in text ≡ Some w → Breaks (λ asked s. answers asked w s) y told → Breaks (λ asked s. takes asked text s) x told

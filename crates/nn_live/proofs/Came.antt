@@ -33,8 +33,8 @@ use Rattle.nn_live.specs.declared.word.Word.{Word}
 use Rattle.nn_live.specs.declared.word.Word.TheVariants as kind
 
 -- a line that is read as an edit in either sort of input is read as that edit, whose txid is from 1 on
-pub edit_read : (text : List ℕ) (tx : Tx) → either_of_line text ≡ Ok (either.Edit tx) → (edit_of_line text ≡ Ok tx) × (1 ≤ tx.txid)
-edit_read text tx e = let is = either_line_ok text (either.Edit tx) e in (edit_line_has text tx is, is.2.from_one)
+pub edit_read : (datanodes : ℕ) (text : List ℕ) (tx : Tx) → either_of_line datanodes text ≡ Ok (either.Edit tx) → (edit_of_line text ≡ Ok tx) × (1 ≤ tx.txid)
+edit_read datanodes text tx e = let is = either_line_ok datanodes text (either.Edit tx) e in (edit_line_has text tx is, is.2.from_one)
 
 -- the segment that a part is has the part's transactions
 pub same_txs : (part : Part) (g : Segment) → AreRead part → segment_of part ≡ Ok g → g.txs ≡ part.txs
@@ -75,7 +75,7 @@ module _ (asked : LiveSetup) (P : Tx → Type 0) where
   all_reports : (own : Bool) (reports : List Report) (s : ServiceState) → Is s → Is (hands asked own reports s)
   all_reports own [] s i = i
   all_reports own (r ∷ reports) s i =
-      one_report own (message_in_turn s.sent r) (λ t. hands asked own reports t) (all_reports own reports) s i (hand_refusal 256 s.phase s.standby (message_in_turn s.sent r))
+      one_report own (message_in_turn s.sent r) (λ t. hands asked own reports t) (all_reports own reports) s i (hand_refusal asked.datanodes s.phase s.standby (message_in_turn s.sent r))
 
   one_tx : (tx : Tx) → P tx → (rest : ServiceState → ServiceState) → ((t : ServiceState) → Is t → Is (rest t)) → (s : ServiceState) → Is s → (r : Option ApplyFault) → Is (applies asked tx r rest s)
   one_tx tx p rest later s i None = later _ (All-append P s.log (tx ∷ []) i.0 (All-cons P tx [] p (All-nil P)), i.1, i.2)
@@ -127,22 +127,22 @@ module _ (asked : LiveSetup) (P : Tx → Type 0) where
   word kind.Help s i = i
   word kind.Unknown s i = i
 
-  read : (text : List ℕ) → is_unbroken text ≡ true → (r : Result Line LineFault) → either_of_line text ≡ r → ((tx : Tx) → r ≡ Ok (either.Edit tx) → P tx)
+  read : (text : List ℕ) → is_unbroken text ≡ true → (r : Result Line LineFault) → either_of_line asked.datanodes text ≡ r → ((tx : Tx) → r ≡ Ok (either.Edit tx) → P tx)
       → (s : ServiceState) → Is s → Is (takes_read asked text r s)
-  read text unbroken (Ok (either.Edit tx)) e p s i = let is = edit_read text tx e in edit (record { text = text; tx = tx }) (p tx refl) unbroken is.0 is.1 s i
+  read text unbroken (Ok (either.Edit tx)) e p s i = let is = edit_read asked.datanodes text tx e in edit (record { text = text; tx = tx }) (p tx refl) unbroken is.0 is.1 s i
   read text unbroken (Ok (either.Report r)) e p s i = all_reports true (r ∷ []) s i
   read text unbroken (Err fault) e p s i = i
 
   -- each edit that the line is read as is one of them
   abbrev Gives : List ℕ → Type 0
-  Gives text = (tx : Tx) → IsEdit text tx → P tx
+  Gives text = (tx : Tx) → IsEdit asked.datanodes text tx → P tx
 
   line : (text : List ℕ) → is_unbroken text ≡ true → Gives text → (s : ServiceState) → Is s → (b : Bool) → is_blank text ≡ b → (w : Option Word) → word_in text ≡ w
       → Is (cond b (counts_line s) (takes_word asked text w (counts_line s)))
   line text unbroken p s i true e w f = i
   line text unbroken p s i false e (Some w) f = word w (counts_line s) i
   line text unbroken p s i false e None f =
-      read text unbroken (either_of_line text) refl (λ tx is. p tx (record { not_blank = e; no_word = f; read = is })) (counts_line s) i
+      read text unbroken (either_of_line asked.datanodes text) refl (λ tx is. p tx (record { not_blank = e; no_word = f; read = is })) (counts_line s) i
 
   all_lines : (texts : List (List ℕ)) → list_all is_unbroken texts ≡ true → All Gives texts → (s : ServiceState) → Is s → Is (takes_all asked texts s)
   unfolding takes takes_all
@@ -155,12 +155,12 @@ pub weaker : {A : Type 0} (Q R : A → Type 0) → ((x : A) → Q x → R x) →
 weaker Q R f [] all = All-nil R
 weaker Q R f (x ∷ xs) all = All-cons R x xs (f x (All-head Q x xs all)) (weaker Q R f xs (All-tail Q x xs all))
 
-each_gives : (asked : LiveSetup) (texts : List (List ℕ)) → All (Gives asked (IsReadIn texts)) texts
+each_gives : (asked : LiveSetup) (texts : List (List ℕ)) → All (Gives asked (IsReadIn asked.datanodes texts)) texts
 each_gives asked [] = All-nil _
 each_gives asked (text ∷ texts) =
-    All-cons (Gives asked (IsReadIn (text ∷ texts))) text texts (λ tx is. inl is)
-    (weaker (Gives asked (IsReadIn texts)) (Gives asked (IsReadIn (text ∷ texts))) (λ t gives tx is. inr (gives tx is)) texts (each_gives asked texts))
+    All-cons (Gives asked (IsReadIn asked.datanodes (text ∷ texts))) text texts (λ tx is. inl is)
+    (weaker (Gives asked (IsReadIn asked.datanodes texts)) (Gives asked (IsReadIn asked.datanodes (text ∷ texts))) (λ t gives tx is. inr (gives tx is)) texts (each_gives asked texts))
 
 pub follows_what_came : FollowsWhatCame
 follows_what_came asked n base texts unbroken =
-    (all_lines asked (IsReadIn texts) texts unbroken (each_gives asked texts) (new_service n base) (All-nil _, All-nil _, none_read)).0
+    (all_lines asked (IsReadIn asked.datanodes texts) texts unbroken (each_gives asked texts) (new_service n base) (All-nil _, All-nil _, none_read)).0

@@ -247,17 +247,17 @@ same_lines f g from zero same = refl
 same_lines f g from (suc count) same =
     ap₂ (λ b t. cond b (line (codes "full") (decimal from)) [] ++ t) (same from (omega arith)) (same_lines f g (from + 1) count (λ k low. same k (omega (arith, low))))
 
-beyond : (from : ℕ) → 257 ≤ from → (reports : List FullReport) → Ascends from reports → [] ≡ flat_map reported_line reports
-beyond from far [] all = refl
-beyond from far (x ∷ reports) all =
-    let high : nat_le x.dn 256 ≡ false = lt-leb x.dn 256 (omega (arith, far, all.0)) in
-    beyond (x.dn + 1) (omega (arith, far, all.0)) reports all.1
-    ∙ sym (ap (λ b. cond b (line (codes "full") (decimal x.dn)) [] ++ flat_map reported_line reports) (ap (λ b. x.there && b) high ∙ and_false x.there))
+beyond : (all from : ℕ) → all < from → (reports : List FullReport) → Ascends from reports → [] ≡ flat_map (reported_line all) reports
+beyond all from far [] up = refl
+beyond all from far (x ∷ reports) up =
+    let high : nat_le x.dn all ≡ false = lt-leb x.dn all (omega (arith, far, up.0)) in
+    beyond all (x.dn + 1) (omega (arith, far, up.0)) reports up.1
+    ∙ sym (ap (λ b. cond b (line (codes "full") (decimal x.dn)) [] ++ flat_map (reported_line all) reports) (ap (λ b. x.there && b) high ∙ and_false x.there))
 
-lines_from : (count from : ℕ) → from + count ≡ 257 → (reports : List FullReport) → Ascends from reports → flat_map (full_line (full_in reports)) (range_with_len from count) ≡ flat_map reported_line reports
-lines_from zero from e reports all = beyond from (omega (arith, e)) reports all
-lines_from (suc count) from e [] all = lines_from count (from + 1) (omega (arith, e)) [] tt
-lines_from (suc count) from e (x ∷ reports) all = at (lines_from count (from + 1) (omega (arith, e))) (x.dn == from) refl
+lines_from : (all count from : ℕ) → from + count ≡ all + 1 → (reports : List FullReport) → Ascends from reports → flat_map (full_line (full_in reports)) (range_with_len from count) ≡ flat_map (reported_line all) reports
+lines_from all zero from e reports up = beyond all from (omega (arith, e)) reports up
+lines_from all (suc count) from e [] up = lines_from all count (from + 1) (omega (arith, e)) [] tt
+lines_from all (suc count) from e (x ∷ reports) up = at (lines_from all count (from + 1) (omega (arith, e))) (x.dn == from) refl
   where
     text : ℕ → List ℕ
     text k = line (codes "full") (decimal k)
@@ -269,21 +269,21 @@ lines_from (suc count) from e (x ∷ reports) all = at (lines_from count (from +
     and_true true = refl
     and_true false = refl
 
-    at : ((xs : List FullReport) → Ascends (from + 1) xs → lines xs ≡ flat_map reported_line xs) → (b : Bool) → (x.dn == from) ≡ b
-        → cond (full_in (x ∷ reports) from) (text from) [] ++ lines (x ∷ reports) ≡ reported_line x ++ flat_map reported_line reports
+    at : ((xs : List FullReport) → Ascends (from + 1) xs → lines xs ≡ flat_map (reported_line all) xs) → (b : Bool) → (x.dn == from) ≡ b
+        → cond (full_in (x ∷ reports) from) (text from) [] ++ lines (x ∷ reports) ≡ reported_line all x ++ flat_map (reported_line all) reports
     at rest true h =
         let same : x.dn ≡ from = eqb-true x.dn from h in
-        let behind : Ascends (from + 1) reports = subst (λ k. Ascends (k + 1) reports) same all.1 in
+        let behind : Ascends (from + 1) reports = subst (λ k. Ascends (k + 1) reports) same up.1 in
         let here : full_in (x ∷ reports) from ≡ x.there = ap₂ (λ a b. (a && x.there) || b) h (above (from + 1) reports behind from (omega arith)).0 ∙ or_false x.there in
-        let low : nat_le x.dn 256 ≡ true = le-leb x.dn 256 (omega (arith, e, same)) in
-        let first : cond (full_in (x ∷ reports) from) (text from) [] ≡ reported_line x =
+        let low : nat_le x.dn all ≡ true = le-leb x.dn all (omega (arith, e, same)) in
+        let first : cond (full_in (x ∷ reports) from) (text from) [] ≡ reported_line all x =
         ap₂ (λ b k. cond b (text k) []) here (sym same) ∙ sym (ap (λ b. cond b (text x.dn) []) (ap (λ b. x.there && b) low ∙ and_true x.there)) in
         let others : lines (x ∷ reports) ≡ lines reports = same_lines (full_in (x ∷ reports)) (full_in reports) (from + 1) count
         (λ k high. ap (λ b. (b && x.there) || full_in reports k) (ne_eqb x.dn k (λ s. absurd (omega (arith, s, same, high))))) in
         ap₂ (λ a b. a ++ b) first (others ∙ rest reports behind)
     at rest false h =
-        let later : Ascends (from + 1) (x ∷ reports) = (next_up from x.dn all.0 h, all.1) in
+        let later : Ascends (from + 1) (x ∷ reports) = (next_up from x.dn up.0 h, up.1) in
         ap (λ b. cond b (text from) [] ++ lines (x ∷ reports)) (above (from + 1) (x ∷ reports) later from (omega arith)).0 ∙ rest (x ∷ reports) later
 
-pub all_lines : (reports : List FullReport) → Ascends 1 reports → flat_map (full_line (full_in reports)) datanodes ≡ flat_map reported_line reports
-all_lines reports all = ap (flat_map (full_line (full_in reports))) all_datanodes ∙ lines_from 256 1 refl reports all
+pub all_lines : (count : ℕ) (reports : List FullReport) → Ascends 1 reports → flat_map (full_line (full_in reports)) (datanodes count) ≡ flat_map (reported_line count) reports
+all_lines count reports up = ap (flat_map (full_line (full_in reports))) (all_datanodes count) ∙ lines_from count count 1 (omega arith) reports up

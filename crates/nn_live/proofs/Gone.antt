@@ -27,27 +27,27 @@ first_cause None true lane more e = refl
 first_cause None false true more e = absurd (cc)
 first_cause None false false more e = refl
 
-refused : (phase : Phase) (x : StandbyState) (m : Message) → is_lane 256 m.dn ≡ false → hand_refusal 256 phase x m ≡ Some (no_lane phase.stopped phase.active)
-refused phase x m e = first_cause phase.stopped phase.active (is_lane 256 m.dn) _ e
+refused : (count : ℕ) (phase : Phase) (x : StandbyState) (m : Message) → is_lane count m.dn ≡ false → hand_refusal count phase x m ≡ Some (no_lane phase.stopped phase.active)
+refused count phase x m e = first_cause phase.stopped phase.active (is_lane count m.dn) _ e
 
-told : (asked : LiveSetup) (s : ServiceState) (dn : ℕ) → is_lane 256 dn ≡ false → hands asked false (empty_report dn) s ≡ tells_fault (number_of_hand (no_lane s.phase.stopped s.phase.active)) (codes " line ") s.lines s
+told : (asked : LiveSetup) (s : ServiceState) (dn : ℕ) → is_lane asked.datanodes dn ≡ false → hands asked false (empty_report dn) s ≡ tells_fault (number_of_hand (no_lane s.phase.stopped s.phase.active)) (codes " line ") s.lines s
 told asked s dn e =
-    ap (λ o. takes_message asked false (message_in_turn s.sent (mark_of dn Begin)) o (λ t. hands asked false (later dn) t) s) (refused s.phase s.standby (message_in_turn s.sent (mark_of dn Begin)) e)
+    ap (λ o. takes_message asked false (message_in_turn s.sent (mark_of dn Begin)) o (λ t. hands asked false (later dn) t) s) (refused asked.datanodes s.phase s.standby (message_in_turn s.sent (mark_of dn Begin)) e)
   where
     later : ℕ → List Report
     later dn = mark_of dn Finish ∷ []
 
 -- so is 0 in its place
-pub same_gone : (asked : LiveSetup) (s : ServiceState) (dn : ℕ) → hands asked false (empty_report dn) s ≡ hands asked false (empty_report (cond (nat_le dn 256) dn 0)) s
-same_gone asked s dn = at (nat_le dn 256) refl
+pub same_gone : (asked : LiveSetup) (s : ServiceState) (dn : ℕ) → hands asked false (empty_report dn) s ≡ hands asked false (empty_report (cond (nat_le dn asked.datanodes) dn 0)) s
+same_gone asked s dn = at (nat_le dn asked.datanodes) refl
   where
-    none : (b : Bool) → nat_le dn 256 ≡ b → b ≡ false → is_lane 256 dn ≡ false
+    none : (b : Bool) → nat_le dn asked.datanodes ≡ b → b ≡ false → is_lane asked.datanodes dn ≡ false
     none b e f = ap (λ d. nat_le 1 dn && d) (e ∙ f) ∙ both (nat_le 1 dn)
       where
         both : (c : Bool) → (c && false) ≡ false
         both true = refl
         both false = refl
 
-    at : (b : Bool) → nat_le dn 256 ≡ b → hands asked false (empty_report dn) s ≡ hands asked false (empty_report (cond b dn 0)) s
+    at : (b : Bool) → nat_le dn asked.datanodes ≡ b → hands asked false (empty_report dn) s ≡ hands asked false (empty_report (cond b dn 0)) s
     at true e = refl
     at false e = told asked s dn (none false e refl) ∙ sym (told asked s 0 refl)

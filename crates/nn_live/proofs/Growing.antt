@@ -51,7 +51,7 @@ handed_grows asked own m (Some cause) rest grows s = prefix_and s.written _
 pub hands_grow : (asked : LiveSetup) (own : Bool) (reports : List Report) → Grows (λ s. hands asked own reports s)
 hands_grow asked own [] s = whole_prefix s.written
 hands_grow asked own (r ∷ reports) s =
-    handed_grows asked own (message_in_turn s.sent r) (hand_refusal 256 s.phase s.standby (message_in_turn s.sent r)) (λ t. hands asked own reports t) (hands_grow asked own reports) s
+    handed_grows asked own (message_in_turn s.sent r) (hand_refusal asked.datanodes s.phase s.standby (message_in_turn s.sent r)) (λ t. hands asked own reports t) (hands_grow asked own reports) s
 
 -- a message alone is handed, and then others behind it
 handed_first : (asked : LiveSetup) (own : Bool) (m : Message) (o : Option HandCause) (rest : ServiceState → ServiceState) → Grows rest → (s : ServiceState) → IsPrefixOf (takes_message asked own m o (λ t. t) s).written (takes_message asked own m o rest s).written
@@ -59,7 +59,7 @@ handed_first asked own m None rest grows s = grows _
 handed_first asked own m (Some cause) rest grows s = whole_prefix (takes_message asked own m (Some cause) (λ t. t) s).written
 
 pub first_handed : (asked : LiveSetup) (own : Bool) (r : Report) (reports : List Report) (s : ServiceState) → IsPrefixOf (hands asked own (r ∷ []) s).written (hands asked own (r ∷ reports) s).written
-first_handed asked own r reports s = handed_first asked own (message_in_turn s.sent r) (hand_refusal 256 s.phase s.standby (message_in_turn s.sent r)) (λ t. hands asked own reports t) (hands_grow asked own reports) s
+first_handed asked own r reports s = handed_first asked own (message_in_turn s.sent r) (hand_refusal asked.datanodes s.phase s.standby (message_in_turn s.sent r)) (λ t. hands asked own reports t) (hands_grow asked own reports) s
 
 applies_grows : (asked : LiveSetup) (tx : Tx) (o : Option ApplyFault) (rest : ServiceState → ServiceState) → Grows rest → Grows (λ s. applies asked tx o rest s)
 applies_grows asked tx None rest grows s = then_prefix _ _ _ (prefix_and s.written _) (grows _)
@@ -129,8 +129,8 @@ read_grows asked text (Ok (either.Edit tx)) s = edit_grows asked (record { text 
 read_grows asked text (Ok (either.Report r)) s = hands_grow asked true (r ∷ []) s
 read_grows asked text (Err fault) s = prefix_and s.written _
 
-pub data_grows : (asked : LiveSetup) (text : List ℕ) → Grows (λ s. takes_read asked text (either_of_line text) s)
-data_grows asked text s = read_grows asked text (either_of_line text) s
+pub data_grows : (asked : LiveSetup) (text : List ℕ) → Grows (λ s. takes_read asked text (either_of_line asked.datanodes text) s)
+data_grows asked text s = read_grows asked text (either_of_line asked.datanodes text) s
 
 word_grows : (asked : LiveSetup) (text : List ℕ) (o : Option Word) → Grows (λ s. takes_word asked text o s)
 word_grows asked text (Some w) s = answers_grow asked w s

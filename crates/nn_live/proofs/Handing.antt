@@ -27,11 +27,13 @@ same_message : (asked : LiveSetup) (x : Service) (s : ServiceState) (r : Report)
 same_message asked x s r i = ap (λ k. message r (k + 1)) (i.sent r.dn)
 
 same_refusal : (asked : LiveSetup) (x : Service) (s : ServiceState) (r : Report) → IsAtService asked x s
-    → hand_refusal 256 x.shadow.phase (standby_of x.shadow) (next_of x.shadow r) ≡ hand_refusal 256 s.phase s.standby (message_in_turn s.sent r)
+    → hand_refusal (length x.shadow.numbers) x.shadow.phase (standby_of x.shadow) (next_of x.shadow r) ≡ hand_refusal asked.datanodes s.phase s.standby (message_in_turn s.sent r)
 same_refusal asked x s r i =
-    ap (λ (p : Phase). hand_refusal 256 p (standby_of x.shadow) (next_of x.shadow r)) i.phase
-    ∙ ap (λ (y : StandbyState). hand_refusal 256 s.phase y (next_of x.shadow r)) i.standby
-    ∙ ap (λ m. hand_refusal 256 s.phase s.standby m) (same_message asked x s r i)
+    let count = length x.shadow.numbers in
+    ap (λ (p : Phase). hand_refusal count p (standby_of x.shadow) (next_of x.shadow r)) i.phase
+    ∙ ap (λ (y : StandbyState). hand_refusal count s.phase y (next_of x.shadow r)) i.standby
+    ∙ ap (λ m. hand_refusal count s.phase s.standby m) (same_message asked x s r i)
+    ∙ ap (λ (a : LiveSetup). hand_refusal a.datanodes s.phase s.standby (message_in_turn s.sent r)) (sym i.asks)
 
 one_more : (s : ServiceState) (m : Message) (k last dn : ℕ) → last ≡ length (s.sent dn) → (same : Bool) → (dn == m.dn) ≡ same → k ≡ length (s.sent m.dn) + 1
     → cond same k last ≡ length (cond same (s.sent dn ++ m ∷ []) (s.sent dn))
@@ -59,7 +61,7 @@ filled own r x y room f fills here same by noted dn =
 
 module _ (own : Bool) (x : Service) (z : Shadow) (f : List FullReport) (r : Report)
     (is : standby_of z ≡ received (standby_of x.shadow) (next_of x.shadow r)) (phase : z.phase ≡ x.shadow.phase) (settings : KeepsSettings x.shadow z) (fills : IsFullAfter own r x.shadow x.full f)
-    (fits : hand_refusal 256 x.shadow.phase (standby_of x.shadow) (next_of x.shadow r) ≡ None) where
+    (fits : hand_refusal (length x.shadow.numbers) x.shadow.phase (standby_of x.shadow) (next_of x.shadow r) ≡ None) where
   -- the definition took it, too
   takes : (asked : LiveSetup) (s : ServiceState) → IsAtService asked x s → one_report own r asked s ≡ takes_message asked own (message_in_turn s.sent r) None (λ t. t) s
   takes asked s i = ap (λ o. takes_message asked own (message_in_turn s.sent r) o (λ t. t) s) (sym (same_refusal asked x s r i) ∙ fits)
@@ -99,7 +101,7 @@ module _ (own : Bool) (x : Service) (z : Shadow) (f : List FullReport) (r : Repo
   }
 
 module _ (own : Bool) (x : Service) (r : Report) (cause : HandCause)
-    (is : hand_refusal 256 x.shadow.phase (standby_of x.shadow) (next_of x.shadow r) ≡ Some cause) where
+    (is : hand_refusal (length x.shadow.numbers) x.shadow.phase (standby_of x.shadow) (next_of x.shadow r) ≡ Some cause) where
   pub refused : FollowsStep (one_report own r) x x (fault_text (number_of_hand cause) (codes " line ") x.lines)
   refused = only_tells (one_report own r) x _ (λ asked s i.
       (ap (λ o. takes_message asked own (message_in_turn s.sent r) o (λ t. t) s) (sym (same_refusal asked x s r i) ∙ is) ∙ ap (λ l. says (fault_text (number_of_hand cause) (codes " line ") l) s) (sym i.lines)))
@@ -163,7 +165,7 @@ module _ (own : Bool) (x y : Service) (r q : Report) (text : List ℕ) (made : F
   at_first : LiveSetup → ServiceState → (ServiceState → ServiceState) → Option HandCause → ServiceState
   at_first asked s rest o = takes_message asked own (message_in_turn s.sent r) o rest s
 
-  pub both_handed : (z : Service) (more : List ℕ) → true ≡ is_none (hand_refusal 256 x.shadow.phase (standby_of x.shadow) (next_of x.shadow r)) → FollowsStep (one_report own q) y z more
+  pub both_handed : (z : Service) (more : List ℕ) → true ≡ is_none (hand_refusal (length x.shadow.numbers) x.shadow.phase (standby_of x.shadow) (next_of x.shadow r)) → FollowsStep (one_report own q) y z more
       → FollowsStep (both_reports own r q) x z (text ++ more)
   unfolding at_first
   both_handed z more fits later = record {
@@ -177,7 +179,7 @@ module _ (own : Bool) (x y : Service) (r q : Report) (text : List ℕ) (made : F
           let none = sym (same_refusal asked x s r i) ∙ none_if _ fits in
           ap (at_first asked s (λ t. one_report own q asked t)) none ∙ sym (ap (λ o. one_report own q asked (at_first asked s (λ t. t) o)) none)
 
-  pub first_refused : false ≡ is_none (hand_refusal 256 x.shadow.phase (standby_of x.shadow) (next_of x.shadow r)) → FollowsStep (both_reports own r q) x y text
+  pub first_refused : false ≡ is_none (hand_refusal (length x.shadow.numbers) x.shadow.phase (standby_of x.shadow) (next_of x.shadow r)) → FollowsStep (both_reports own r q) x y text
   unfolding at_first
   first_refused refuses = record {
     at = λ asked s i. subst (IsAtService asked y) (sym (is asked s i)) (made.at asked s i);

@@ -162,27 +162,27 @@ module _ (id : ℕ) where
 
 -- ---- of a service
 
-read_lawful : (texts : List (List ℕ)) (tx : Tx) → IsReadIn texts tx → IsLawfulEdit tx.edit
-read_lawful [] tx here = absurd here
-read_lawful (text ∷ texts) tx (inl is) = lawful_line text (either.Edit tx) (either_line_ok text (either.Edit tx) is.read)
-read_lawful (text ∷ texts) tx (inr later) = read_lawful texts tx later
+read_lawful : (datanodes : ℕ) (texts : List (List ℕ)) (tx : Tx) → IsReadIn datanodes texts tx → IsLawfulEdit tx.edit
+read_lawful datanodes [] tx here = absurd here
+read_lawful datanodes (text ∷ texts) tx (inl is) = lawful_line datanodes text (either.Edit tx) (either_line_ok datanodes text (either.Edit tx) is.read)
+read_lawful datanodes (text ∷ texts) tx (inr later) = read_lawful datanodes texts tx later
 
-all_lawful : (texts : List (List ℕ)) (txs : List Tx) → All (IsReadIn texts) txs → AreLawful txs
-all_lawful texts [] all = tt
-all_lawful texts (tx ∷ txs) all = (read_lawful texts tx (All-head (IsReadIn texts) tx txs all), all_lawful texts txs (All-tail (IsReadIn texts) tx txs all))
+all_lawful : (datanodes : ℕ) (texts : List (List ℕ)) (txs : List Tx) → All (IsReadIn datanodes texts) txs → AreLawful txs
+all_lawful datanodes texts [] all = tt
+all_lawful datanodes texts (tx ∷ txs) all = (read_lawful datanodes texts tx (All-head (IsReadIn datanodes texts) tx txs all), all_lawful datanodes texts txs (All-tail (IsReadIn datanodes texts) tx txs all))
 
 well_served : (asked : LiveSetup) (n : Namespace) (base : ℕ) (texts : List (List ℕ)) → HasWellFormedBlocks n → list_all is_unbroken texts ≡ true
     → HasWellFormedBlocks (served asked n base texts).standby.namespace
 well_served asked n base texts well unbroken =
     let s = served asked n base texts in
     let log = stands_at_its_log asked n base texts well in
-    subst HasWellFormedBlocks (sym log.namespace) (log_keeps_blocks n base s.log (all_lawful texts s.log (follows_what_came asked n base texts unbroken)) log.log well)
+    subst HasWellFormedBlocks (sym log.namespace) (log_keeps_blocks n base s.log (all_lawful asked.datanodes texts s.log (follows_what_came asked n base texts unbroken)) log.log well)
 
 pub block_tells_the_path : BlockTellsThePath
 block_tells_the_path asked n base texts id well unbroken =
     let s = served asked n base texts in (
-      block_answer s.standby id,
-      replicas_answer s.standby id,
+      block_answer asked.datanodes s.standby id,
+      replicas_answer asked.datanodes s.standby id,
       path_told id s.standby ((well_served asked n base texts well unbroken).once id),
       refl,
       refl,

@@ -167,7 +167,7 @@ module _ (asked : LiveSetup) (n : Namespace) (base : ℕ) where
           let others = before b (omega (arith, grows, last, low)) both.0 in
           omega (arith, is, own, others)
 
-  report_line : (r : Report) (lines : List ScenarioLine) (k : ℕ) (segments : List Segment) (end : LogEnd) (s : ServiceState) → IsInStep s → IsLawfulReport r
+  report_line : (r : Report) (lines : List ScenarioLine) (k : ℕ) (segments : List Segment) (end : LogEnd) (s : ServiceState) → IsInStep s → IsLawfulReport asked.datanodes r
       → segments_from k (parts_from s.in_hand (edit_lines lines)) ≡ Ok segments → end_of_log s.standby.last s.standby.namespace segments ≡ Ok end
       → TookLine s (hands asked true (r ∷ []) s) (report r) lines end
   report_line r lines k segments end s i lawful parts ends =
@@ -195,11 +195,11 @@ module _ (asked : LiveSetup) (n : Namespace) (base : ℕ) where
       by : s.standby.last_number r.dn ≡ length (s.sent r.dn)
       by = (i.has_log.stands i.serves.not_active).stands.last_numbers r.dn
 
-      lane : is_lane 256 r.dn ≡ true
-      lane = ap₂ (λ a b. a && b) (le-leb 1 r.dn lawful.dn_from) (le-leb r.dn 256 lawful.dn_to)
+      lane : is_lane asked.datanodes r.dn ≡ true
+      lane = ap₂ (λ a b. a && b) (le-leb 1 r.dn lawful.dn_from) (le-leb r.dn asked.datanodes lawful.dn_to)
 
-      taken : hand_refusal 256 s.phase s.standby m ≡ None
-      taken = next_is_taken 256 s.phase s.standby m i.serves lane (ap (λ k. k + 1) (sym by))
+      taken : hand_refusal asked.datanodes s.phase s.standby m ≡ None
+      taken = next_is_taken asked.datanodes s.phase s.standby m i.serves lane (ap (λ k. k + 1) (sym by))
 
       next : ServiceState
       next = comes_to asked (received s.standby m) (record s { sent = followed_by s.sent m; full = full_after true s m })
@@ -225,11 +225,11 @@ module _ (asked : LiveSetup) (n : Namespace) (base : ℕ) where
     pub counted_as : t.lines ≡ s.lines + count
 
   line_taken : (text : List ℕ) (line : Line) (lines : List ScenarioLine) (k : ℕ) (segments : List Segment) (end : LogEnd) (s : ServiceState) → IsInStep s → is_unbroken text ≡ true
-      → either_of_line text ≡ Ok line → All IsReadLine (edit_lines lines) → segments_from k (parts_from s.in_hand (edit_lines (line_as text line ∷ lines))) ≡ Ok segments
+      → either_of_line asked.datanodes text ≡ Ok line → All IsReadLine (edit_lines lines) → segments_from k (parts_from s.in_hand (edit_lines (line_as text line ∷ lines))) ≡ Ok segments
       → end_of_log s.standby.last s.standby.namespace segments ≡ Ok end → TookLine s (takes_read asked text (Ok line) s) (line_as text line) lines end
   unfolding parts_from
   line_taken text (either.Report r) lines k segments end s i whole read all parts ends =
-      report_line r lines k segments end s i (lawful_line text (either.Report r) (either_line_ok text (either.Report r) read)) parts ends
+      report_line r lines k segments end s i (lawful_line asked.datanodes text (either.Report r) (either_line_ok asked.datanodes text (either.Report r) read)) parts ends
   line_taken text (either.Edit tx) lines k segments end s i whole read all parts ends = at (is_end tx.edit) refl parts
     where
       l : EditLine
@@ -237,8 +237,8 @@ module _ (asked : LiveSetup) (n : Namespace) (base : ℕ) where
 
       at : (b : Bool) → is_end tx.edit ≡ b → segments_from k (cond b (with_line s.in_hand l ∷ parts_from no_lines (edit_lines lines)) (parts_from (with_line s.in_hand l) (edit_lines lines))) ≡ Ok segments
           → TookLine s (takes_edit asked l s) (edit l) lines end
-      at true e p = ended_line l lines k segments end s i (is_read_line text tx whole read) e p ends
-      at false e p = kept_line l lines k segments end s i (is_read_line text tx whole read) all e p ends
+      at true e p = ended_line l lines k segments end s i (is_read_line asked.datanodes text tx whole read) e p ends
+      at false e p = kept_line l lines k segments end s i (is_read_line asked.datanodes text tx whole read) all e p ends
 
   counted_line : (s : ServiceState) → IsInStep s → IsInStep (counts_line s)
   counted_line s i = record { has_log = i.has_log; serves = i.serves; epoch = i.epoch; silent = i.silent; known = i.known; read = i.read; open_part = i.open_part }
@@ -247,9 +247,9 @@ module _ (asked : LiveSetup) (n : Namespace) (base : ℕ) where
   unfolding takes
   blank_taken text s blank = rw blank refl
 
-  data_taken : (text : List ℕ) (line : Line) (s : ServiceState) → is_blank text ≡ false → either_of_line text ≡ Ok line → takes asked text s ≡ takes_read asked text (Ok line) (counts_line s)
+  data_taken : (text : List ℕ) (line : Line) (s : ServiceState) → is_blank text ≡ false → either_of_line asked.datanodes text ≡ Ok line → takes asked text s ≡ takes_read asked text (Ok line) (counts_line s)
   unfolding takes
-  data_taken text line s some read = rw (some, data_is_no_word text line some read, read) refl
+  data_taken text line s some read = rw (some, data_is_no_word asked.datanodes text line some read, read) refl
 
   ends_here : (lines : List ScenarioLine) (k : ℕ) (segments : List Segment) (end : LogEnd) (s : ServiceState) → IsInStep s → [] ≡ lines
       → segments_from k (parts_from s.in_hand (edit_lines lines)) ≡ Ok segments → end_of_log s.standby.last s.standby.namespace segments ≡ Ok end → Ended s s lines 0 end
@@ -270,19 +270,19 @@ module _ (asked : LiveSetup) (n : Namespace) (base : ℕ) where
       own r x y e f = cc
 
   pub all_taken : (texts : List (List ℕ)) (m k : ℕ) (lines : List ScenarioLine) (segments : List Segment) (end : LogEnd) (s : ServiceState) → IsInStep s → list_all is_unbroken texts ≡ true
-      → lines_from m texts ≡ Ok lines → segments_from k (parts_from s.in_hand (edit_lines lines)) ≡ Ok segments → end_of_log s.standby.last s.standby.namespace segments ≡ Ok end
+      → lines_from asked.datanodes m texts ≡ Ok lines → segments_from k (parts_from s.in_hand (edit_lines lines)) ≡ Ok segments → end_of_log s.standby.last s.standby.namespace segments ≡ Ok end
       → Ended s (takes_all asked texts s) lines (length texts) end
   unfolding takes_all lines_from
   all_taken [] m k lines segments end s i whole is parts ends = ends_here lines k segments end s i (let same : [] ≡ lines = cc in same) parts ends
   all_taken (text ∷ texts) m k lines segments end s i whole is parts ends =
       let both = and_parts (is_unbroken text) (list_all is_unbroken texts) whole in
-      elim (next_line m text texts lines is) [
+      elim (next_line asked.datanodes m text texts lines is) [
         | inl blank ↦
             let e = all_taken texts (m + 1) k lines segments end (counts_line s) (counted_line s i) both.1 blank.1 parts ends in
             subst (λ t. Ended s (takes_all asked texts t) lines (length (text ∷ texts)) end) (sym (blank_taken text s blank.0))
             (record { step = e.step; none = e.none; last = e.last; namespace = e.namespace; sent = e.sent; counted_as = (let c = e.counted_as in omega (arith, c)) })
         | inr next ↦
-            let all = all_read texts (m + 1) next.later both.1 next.others in
+            let all = all_read asked.datanodes texts (m + 1) next.later both.1 next.others in
             let t = takes_read asked text (Ok next.line) (counts_line s) in
             let one = line_taken text next.line next.later k segments end (counts_line s) (counted_line s i) both.0 next.read all
             (ap (λ ls. segments_from k (parts_from s.in_hand (edit_lines ls))) next.are ∙ parts) ends in

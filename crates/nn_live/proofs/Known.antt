@@ -47,7 +47,7 @@ module _ (asked : LiveSetup) (which : Bool) where
 
   all_reports : (own : Bool) (reports : List Report) (s : ServiceState) → SameKnown s (hands asked own reports s)
   all_reports own [] s = refl
-  all_reports own (r ∷ reports) s = one_report own (message_in_turn s.sent r) (λ t. hands asked own reports t) (all_reports own reports) s (hand_refusal 256 s.phase s.standby (message_in_turn s.sent r))
+  all_reports own (r ∷ reports) s = one_report own (message_in_turn s.sent r) (λ t. hands asked own reports t) (all_reports own reports) s (hand_refusal asked.datanodes s.phase s.standby (message_in_turn s.sent r))
 
   one_tx : (tx : Tx) (rest : ServiceState → ServiceState) → ((t : ServiceState) → SameKnown t (rest t)) → (s : ServiceState) (r : Option ApplyFault) → SameKnown s (applies asked tx r rest s)
   one_tx tx rest later s None = later _
@@ -126,7 +126,7 @@ module _ (asked : LiveSetup) (which : Bool) where
 
   word_or_read : (text : List ℕ) (w : Option Word) (s : ServiceState) → mark which s ≤ mark which (takes_word asked text w s)
   word_or_read text (Some w) s = word w s
-  word_or_read text None s = read text (either_of_line text) s
+  word_or_read text None s = read text (either_of_line asked.datanodes text) s
 
   line_grows : (text : List ℕ) (s : ServiceState) → mark which s ≤ mark which (takes asked text s)
   unfolding takes
@@ -161,8 +161,8 @@ all_up P rises k n less (text ∷ texts) all =
 epochs_up : (k n : ℕ) (text : List ℕ) → k ≤ n → IsInEpoch k text → IsInEpoch n text
 epochs_up k n text less all other names = omega (arith, less, all other names)
 
-txids_up : (k n : ℕ) (text : List ℕ) → k ≤ n → IsUpTo k text → IsUpTo n text
-txids_up k n text less all other names = omega (arith, less, all other names)
+txids_up : (datanodes k n : ℕ) (text : List ℕ) → k ≤ n → IsUpTo datanodes k text → IsUpTo datanodes n text
+txids_up datanodes k n text less all other names = omega (arith, less, all other names)
 
 module _ (asked : LiveSetup) where
   edit_known : (l : EditLine) (s : ServiceState) → l.tx.txid ≤ (takes_edit asked l s).known
@@ -171,7 +171,7 @@ module _ (asked : LiveSetup) where
       let same : (takes_edit asked l s).known ≡ (with_edit l t).known = behind asked true l.tx (with_edit l t) in
       subst (λ k. l.tx.txid ≤ k) (sym same) (le-max_right t.known l.tx.txid)
 
-  line_known : (text : List ℕ) (s : ServiceState) → IsUpTo (takes asked text s).known text
+  line_known : (text : List ℕ) (s : ServiceState) → IsUpTo asked.datanodes (takes asked text s).known text
   unfolding takes
   line_known text s other names = elim names [
     | inl x ↦ subst (λ k. k ≤ (takes asked text s).known) x.2 (rw (x.1.not_blank, x.1.no_word, x.1.read) (edit_known (record { text = text; tx = x.0 }) (counts_line s)))
@@ -224,18 +224,18 @@ module _ (asked : LiveSetup) where
   made txid s before true false b e behind = absurd (both (in_charge s) before behind)
   made txid s before false ends b e behind = absurd (both (in_charge s) before behind)
 
-  gives_up_none : (txid : ℕ) (texts : List (List ℕ)) (s : ServiceState) → All (IsUpTo s.known) texts → in_charge s ≡ false → (r : Option FlushFault)
-      → in_charge (promotes asked txid false r s) ≡ true → GivesUpNone txid texts s
+  gives_up_none : (txid : ℕ) (texts : List (List ℕ)) (s : ServiceState) → All (IsUpTo asked.datanodes s.known) texts → in_charge s ≡ false → (r : Option FlushFault)
+      → in_charge (promotes asked txid false r s) ≡ true → GivesUpNone asked.datanodes txid texts s
   gives_up_none txid texts s known before (Some fault) behind = absurd (both (in_charge s) before behind)
   gives_up_none txid texts s known before None behind =
       let is = made txid s before (is_between s) (ends_at txid false s) refl refl behind in
       let end = ended (s.standby.last == txid) (ltb txid s.known) is.1 in
-      record { last = eqb-true _ _ end.0; between = is.0; read = all_up IsUpTo txids_up s.known txid (ltb-false txid s.known end.1) texts known }
+      record { last = eqb-true _ _ end.0; between = is.0; read = all_up (IsUpTo asked.datanodes) (txids_up asked.datanodes) s.known txid (ltb-false txid s.known end.1) texts known }
 
 pub promotes_at_the_end : PromotesAtTheEnd
 promotes_at_the_end asked n base texts txid epoch puts =
     let s = served asked n base texts in
-    let g = gives_up_none asked txid texts (names epoch s) (all_said asked true IsUpTo txids_up (line_known asked) texts (new_service n base)) puts.before
+    let g = gives_up_none asked txid texts (names epoch s) (all_said asked true (IsUpTo asked.datanodes) (txids_up asked.datanodes) (line_known asked) texts (new_service n base)) puts.before
     (flush_refusal s.phase) (not_late asked txid epoch false s puts).1 in
     record { last = g.last; between = g.between; read = g.read }
 

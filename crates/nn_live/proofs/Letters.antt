@@ -107,19 +107,19 @@ letter_is_none b rest is =
     ap (λ c. object_of (punctuate fresh (lex_byte between c b rest (λ next. lex next rest)))) is
     ∙ scalar_is_none (word (b ∷ rest)) (word_scalar (b ∷ rest)) (begins_colon (lex in_word rest)) (λ next. punctuate next (lex in_word rest))
 
-letter_is_no_data : (b : ℕ) (rest : List ℕ) (x : Line) → class b ≡ other → either_of_line (b ∷ rest) ≡ Ok x → ⊥
+letter_is_no_data : (datanodes b : ℕ) (rest : List ℕ) (x : Line) → class b ≡ other → either_of_line datanodes (b ∷ rest) ≡ Ok x → ⊥
 unfolding either_of_line object_in value_of
-letter_is_no_data b rest x is found = at (ltb 65536 (length (b ∷ rest))) (is_utf8 (b ∷ rest)) found
+letter_is_no_data datanodes b rest x is found = at (ltb 65536 (length (b ∷ rest))) (is_utf8 (b ∷ rest)) found
   where
     own : {A E : Type 0} (e : E) (a : A) → Err e ≡ Ok a → ⊥
     own e a same = absurd (cc)
 
-    at : (long utf8 : Bool) → (cond long (Err LineTooLong) (ok_or (option_and_then object_only (cond utf8 (option_and_then of_json (option_and_then (λ p. json.if_last p.0 p.1) (json.value 127 (tokens (b ∷ rest))))) None)) NotJson) >>= either_in) ≡ Ok x → ⊥
+    at : (long utf8 : Bool) → (cond long (Err LineTooLong) (ok_or (option_and_then object_only (cond utf8 (option_and_then of_json (option_and_then (λ p. json.if_last p.0 p.1) (json.value 127 (tokens (b ∷ rest))))) None)) NotJson) >>= either_in datanodes) ≡ Ok x → ⊥
     at true utf8 e = own LineTooLong x e
     at false false e = own NotJson x e
-    at false true e = own NotJson x (sym (ap (λ o. ok_or o NotJson >>= either_in) (letter_is_none b rest is)) ∙ e)
+    at false true e = own NotJson x (sym (ap (λ o. ok_or o NotJson >>= either_in datanodes) (letter_is_none b rest is)) ∙ e)
 
 -- what begins with a letter is no data, and what begins with none is no word
-pub data_is_no_word : (text : List ℕ) (x : Line) → is_blank text ≡ false → either_of_line text ≡ Ok x → word_in text ≡ None
-data_is_no_word [] x some is = absurd (cc)
-data_is_no_word (b ∷ rest) x some is = no_letter b rest (λ low high. letter_is_no_data b rest x (letter_class b low high) is)
+pub data_is_no_word : (datanodes : ℕ) (text : List ℕ) (x : Line) → is_blank text ≡ false → either_of_line datanodes text ≡ Ok x → word_in text ≡ None
+data_is_no_word datanodes [] x some is = absurd (cc)
+data_is_no_word datanodes (b ∷ rest) x some is = no_letter b rest (λ low high. letter_is_no_data datanodes b rest x (letter_class b low high) is)

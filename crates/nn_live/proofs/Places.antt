@@ -9,7 +9,7 @@ use Rattle.nn_live.specs.Serving.{Service, IsAtService, FollowsStep, asked_of}
 
 -- a standby keeps its settings
 pub asks_still : (asked : LiveSetup) (x : Service) (z : Shadow) → KeepsSettings x.shadow z → asked ≡ asked_of x → asked ≡ asked_of (record x { shadow = z })
-asks_still asked x z keeps is = is ∙ ap₂ (λ p m. record { permille = p; min = m; history = x.history; version = x.version }) (sym keeps.permille) (sym keeps.min)
+asks_still asked x z keeps is = is ∙ (λ i. record { permille = sym keeps.permille i; min = sym keeps.min i; datanodes = sym keeps.datanodes i; history = x.history; version = x.version })
 
 -- telling changes nothing
 pub told_there : (asked : LiveSetup) (x : Service) (s : ServiceState) (text : List ℕ) → IsAtService asked x s → IsAtService asked x (says text s)

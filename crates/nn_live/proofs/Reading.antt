@@ -35,16 +35,20 @@ given_fault fault.OutOfMemory given is not_memory = absurd (not_memory refl)
 
 module _ (text : List ℕ) (x : Service) where
   abbrev step : LiveSetup → ServiceState → ServiceState
-  step asked s = takes_read asked text (either_of_line text) s
+  step asked s = takes_read asked text (either_of_line asked.datanodes text) s
 
-  pub edit_read : (tx : Tx) (z : Service) (told : List ℕ) → either_of_line text ≡ Ok (either.Edit tx) → FollowsStep (λ asked s. takes_edit asked (record { text = text; tx = tx }) s) x z told → FollowsStep step x z told
-  edit_read tx z told is made = same_makes step (λ asked s. takes_edit asked (record { text = text; tx = tx }) s) x z told (λ asked s i. ap (λ r. takes_read asked text r s) is) made
+  -- where as many DataNodes report as its standby has, a line is read so
+  read_as : (r : Result Line LineFault) → either_of_line (length x.shadow.numbers) text ≡ r → (asked : LiveSetup) (s : ServiceState) → IsAtService asked x s → step asked s ≡ takes_read asked text r s
+  read_as r is asked s i = ap (λ o. takes_read asked text o s) (ap (λ (a : LiveSetup). either_of_line a.datanodes text) i.asks ∙ is)
 
-  pub report_read : (r : Report) (z : Service) (told : List ℕ) → either_of_line text ≡ Ok (either.Report r) → FollowsStep (λ asked s. hands asked true (r ∷ []) s) x z told → FollowsStep step x z told
-  report_read r z told is made = same_makes step (λ asked s. hands asked true (r ∷ []) s) x z told (λ asked s i. ap (λ o. takes_read asked text o s) is) made
+  pub edit_read : (tx : Tx) (z : Service) (told : List ℕ) → either_of_line (length x.shadow.numbers) text ≡ Ok (either.Edit tx) → FollowsStep (λ asked s. takes_edit asked (record { text = text; tx = tx }) s) x z told → FollowsStep step x z told
+  edit_read tx z told is made = same_makes step (λ asked s. takes_edit asked (record { text = text; tx = tx }) s) x z told (read_as (Ok (either.Edit tx)) is) made
 
-  pub fault_read : (e : LineFault) → either_of_line text ≡ Err e → FollowsStep step x x (fault_text (number_of e) (codes " line ") x.lines)
-  fault_read e is = only_tells step x _ (λ asked s i. (ap (λ r. takes_read asked text r s) is ∙ ap (λ l. says (fault_text (number_of e) (codes " line ") l) s) (sym i.lines)))
+  pub report_read : (r : Report) (z : Service) (told : List ℕ) → either_of_line (length x.shadow.numbers) text ≡ Ok (either.Report r) → FollowsStep (λ asked s. hands asked true (r ∷ []) s) x z told → FollowsStep step x z told
+  report_read r z told is made = same_makes step (λ asked s. hands asked true (r ∷ []) s) x z told (read_as (Ok (either.Report r)) is) made
+
+  pub fault_read : (e : LineFault) → either_of_line (length x.shadow.numbers) text ≡ Err e → FollowsStep step x x (fault_text (number_of e) (codes " line ") x.lines)
+  fault_read e is = only_tells step x _ (λ asked s i. (read_as (Err e) is asked s i ∙ ap (λ l. says (fault_text (number_of e) (codes " line ") l) s) (sym i.lines)))
 
 -- ---- A line of any kind.
 
@@ -65,10 +69,10 @@ module _ (text : List ℕ) where
   word_line x y z w told isnt is made later = same_makes (λ asked s. takes asked text s) (λ asked s. answers asked w (counts_line s)) x z told (λ asked s i.
       (line_is asked s ∙ ap₂ (λ b o. by_kind asked b o s) isnt is)) (then_makes (λ asked s. counts_line s) (λ asked s. answers asked w s) x y z [] told made later)
 
-  pub data_line : (x y z : Service) (told : List ℕ) → is_blank text ≡ false → word_in text ≡ None → FollowsStep (λ asked s. counts_line s) x y [] → FollowsStep (λ asked s. takes_read asked text (either_of_line text) s) y z told
+  pub data_line : (x y z : Service) (told : List ℕ) → is_blank text ≡ false → word_in text ≡ None → FollowsStep (λ asked s. counts_line s) x y [] → FollowsStep (λ asked s. takes_read asked text (either_of_line asked.datanodes text) s) y z told
       → FollowsStep (λ asked s. takes asked text s) x z told
-  data_line x y z told isnt is made later = same_makes (λ asked s. takes asked text s) (λ asked s. takes_read asked text (either_of_line text) (counts_line s)) x z told (λ asked s i.
-      (line_is asked s ∙ ap₂ (λ b o. by_kind asked b o s) isnt is)) (then_makes (λ asked s. counts_line s) (λ asked s. takes_read asked text (either_of_line text) s) x y z [] told made later)
+  data_line x y z told isnt is made later = same_makes (λ asked s. takes asked text s) (λ asked s. takes_read asked text (either_of_line asked.datanodes text) (counts_line s)) x z told (λ asked s i.
+      (line_is asked s ∙ ap₂ (λ b o. by_kind asked b o s) isnt is)) (then_makes (λ asked s. counts_line s) (λ asked s. takes_read asked text (either_of_line asked.datanodes text) s) x y z [] told made later)
 
   -- ---- The bytes behind the last line feed.
 
@@ -97,10 +101,10 @@ module _ (text : List ℕ) where
         (then_makes (λ asked s. counts_line s) (λ asked s. tears_word text (Some w) asked s) x y y [] _ made
         (only_tells (λ asked s. tears_word text (Some w) asked s) y _ (λ asked s i. ap (λ l. says (fault_text NOT_JSON (codes " line ") l) s) (sym i.lines))))
 
-    pub data_torn : (x y z : Service) (told : List ℕ) → is_blank text ≡ false → word_in text ≡ None → FollowsStep (λ asked s. counts_line s) x y [] → FollowsStep (λ asked s. takes_read asked text (either_of_line text) s) y z told
+    pub data_torn : (x y z : Service) (told : List ℕ) → is_blank text ≡ false → word_in text ≡ None → FollowsStep (λ asked s. counts_line s) x y [] → FollowsStep (λ asked s. takes_read asked text (either_of_line asked.datanodes text) s) y z told
         → FollowsStep torn x z told
-    data_torn x y z told isnt is made later = same_makes torn (λ asked s. takes_read asked text (either_of_line text) (counts_line s)) x z told (λ asked s i.
-        (there asked s ∙ ap₂ (λ b o. torn_by asked false b o s) isnt is)) (then_makes (λ asked s. counts_line s) (λ asked s. takes_read asked text (either_of_line text) s) x y z [] told made later)
+    data_torn x y z told isnt is made later = same_makes torn (λ asked s. takes_read asked text (either_of_line asked.datanodes text) (counts_line s)) x z told (λ asked s i.
+        (there asked s ∙ ap₂ (λ b o. torn_by asked false b o s) isnt is)) (then_makes (λ asked s. counts_line s) (λ asked s. takes_read asked text (either_of_line asked.datanodes text) s) x y z [] told made later)
 
 -- ---- A line of more bytes than one may have.
 
@@ -108,13 +112,13 @@ pub no_long_word : (text : List ℕ) → 65536 < length text → word_in text �
 unfolding word_in
 no_long_word text long = ap (λ b. cond b (or_else (known_word text) (unknown_word text)) None) (lt-leb (length text) 65536 long)
 
-pub long_fault : (text : List ℕ) → 65536 < length text → either_of_line text ≡ Err fault.LineTooLong
+pub long_fault : (datanodes : ℕ) (text : List ℕ) → 65536 < length text → either_of_line datanodes text ≡ Err fault.LineTooLong
 unfolding either_of_line object_in
-long_fault text long = ap (λ b. (cond b (Err fault.LineTooLong) (ok_or (option_and_then object_only (value_of text)) fault.NotJson)) >>= either_in) (lt-ltb 65536 (length text) long)
+long_fault datanodes text long = ap (λ b. (cond b (Err fault.LineTooLong) (ok_or (option_and_then object_only (value_of text)) fault.NotJson)) >>= either_in datanodes) (lt-ltb 65536 (length text) long)
 
 module _ (text : List ℕ) (long : 65536 < length text) where
   pub long_told : (x y : Service) → is_blank text ≡ false → FollowsStep (λ asked s. counts_line s) x y [] → FollowsStep (λ asked s. takes asked text s) x y (fault_text LINE_TOO_LONG (codes " line ") y.lines)
-  long_told x y isnt made = data_line text x y y _ isnt (no_long_word text long) made (fault_read text y fault.LineTooLong (long_fault text long))
+  long_told x y isnt made = data_line text x y y _ isnt (no_long_word text long) made (fault_read text y fault.LineTooLong (long_fault (length y.shadow.numbers) text long))
 
   -- at the end of the input it is taken as it is elsewhere
   pub torn_as_line : (asked : LiveSetup) (s : ServiceState) → takes_torn asked text s ≡ takes asked text s

@@ -54,13 +54,13 @@ use Rattle.nn_live.proofs.Twice.{all_append}
 -- ---- The text as lines.
 
 -- what stands behind the last line feed is no line
-no_last_line : (m : ℕ) (texts : List (List ℕ)) → lines_from m (texts ++ [] ∷ []) ≡ lines_from m texts
+no_last_line : (datanodes m : ℕ) (texts : List (List ℕ)) → lines_from datanodes m (texts ++ [] ∷ []) ≡ lines_from datanodes m texts
 unfolding lines_from
-no_last_line m [] = refl
-no_last_line m (text ∷ texts) = ap (λ r. cond (is_blank text) r (with_read m text (either_of_line text) r)) (no_last_line (m + 1) texts)
+no_last_line datanodes m [] = refl
+no_last_line datanodes m (text ∷ texts) = ap (λ r. cond (is_blank text) r (with_read m text (either_of_line datanodes text) r)) (no_last_line datanodes (m + 1) texts)
 
-lines_are : (texts : List (List ℕ)) → list_all is_unbroken texts ≡ true → scenario_lines (joined_lines texts) ≡ lines_from 1 texts
-lines_are texts whole = ap (lines_from 1) (pieces_of_lines texts whole) ∙ no_last_line 1 texts
+lines_are : (datanodes : ℕ) (texts : List (List ℕ)) → list_all is_unbroken texts ≡ true → scenario_lines datanodes (joined_lines texts) ≡ lines_from datanodes 1 texts
+lines_are datanodes texts whole = ap (lines_from datanodes 1) (pieces_of_lines texts whole) ∙ no_last_line datanodes 1 texts
 
 all_go_on : (asked : LiveSetup) (texts : List (List ℕ)) (s : ServiceState) → list_all is_unbroken texts ≡ true → stage_after asked s (joined_lines texts) ≡ stage_after asked (takes_all asked texts s) []
 unfolding takes_all
@@ -84,35 +84,35 @@ record HasRun (asked : LiveSetup) (texts : List (List ℕ)) (printed : List ℕ)
   lines : List ScenarioLine
   segments : List Segment
   end : LogEnd
-  read : lines_from 1 texts ≡ Ok lines
+  read : lines_from asked.datanodes 1 texts ≡ Ok lines
   parts : segments_from 1 (cut (edit_lines lines)) ≡ Ok segments
   ends_at : end_of_log 0 root_alone segments ≡ Ok end
-  is : printed ≡ listing_text end.last end.namespace ++ tables_text asked.permille asked.min end.namespace (items (lanes_of_steps (steps_of lines)))
+  is : printed ≡ listing_text end.last end.namespace ++ tables_text asked.datanodes asked.permille asked.min end.namespace (items (lanes_of_steps (steps_of lines)))
 
 no_status : {A : Type 0} (status : ℕ) → status ≡ 1 → status ≡ 0 → A
 no_status status is isnt = absurd (omega (arith, is, isnt))
 
 module _ (asked : LiveSetup) (leave : Bool) (texts : List (List ℕ)) where
-  run_of_end : (lines : List ScenarioLine) (segments : List Segment) → lines_from 1 texts ≡ Ok lines → segments_from 1 (cut (edit_lines lines)) ≡ Ok segments
+  run_of_end : (lines : List ScenarioLine) (segments : List Segment) → lines_from asked.datanodes 1 texts ≡ Ok lines → segments_from 1 (cut (edit_lines lines)) ≡ Ok segments
       → (o : Result LogEnd LogStop) → end_of_log 0 root_alone segments ≡ o → (after_log (tables_alone asked leave) (lanes_of_steps (steps_of lines)) o).status ≡ 0
       → HasRun asked texts (after_log (tables_alone asked leave) (lanes_of_steps (steps_of lines)) o).text
   run_of_end lines segments read parts (Err stop) e status = no_status 1 refl status
   run_of_end lines segments read parts (Ok end) e status = record { lines = lines; segments = segments; end = end; read = read; parts = parts; ends_at = e; is = append-nil _ }
 
-  run_of_segments : (lines : List ScenarioLine) → lines_from 1 texts ≡ Ok lines → (o : Result (List Segment) PartFault) → segments_from 1 (cut (edit_lines lines)) ≡ o
+  run_of_segments : (lines : List ScenarioLine) → lines_from asked.datanodes 1 texts ≡ Ok lines → (o : Result (List Segment) PartFault) → segments_from 1 (cut (edit_lines lines)) ≡ o
       → (after_segments from_root (tables_alone asked leave) (lanes_of_steps (steps_of lines)) o).status ≡ 0
       → HasRun asked texts (after_segments from_root (tables_alone asked leave) (lanes_of_steps (steps_of lines)) o).text
   run_of_segments lines read (Err bad) e status = no_status 1 refl status
   run_of_segments lines read (Ok segments) e status = run_of_end lines segments read e (end_of_log 0 root_alone segments) refl status
 
-  run_of_lines : (o : Result (List ScenarioLine) ScenarioFault) → lines_from 1 texts ≡ o → (after_lines from_root (tables_alone asked leave) (scenario_from o)).status ≡ 0
+  run_of_lines : (o : Result (List ScenarioLine) ScenarioFault) → lines_from asked.datanodes 1 texts ≡ o → (after_lines from_root (tables_alone asked leave) (scenario_from o)).status ≡ 0
       → HasRun asked texts (after_lines from_root (tables_alone asked leave) (scenario_from o)).text
   run_of_lines (Err bad) e status = no_status 1 refl status
   run_of_lines (Ok lines) e status = run_of_segments lines e (segments_from 1 (cut (edit_lines lines))) refl status
 
-  outputs : list_all is_unbroken texts ≡ true → output_of from_root (tables_alone asked leave) (joined_lines texts) ≡ after_lines from_root (tables_alone asked leave) (scenario_from (lines_from 1 texts))
+  outputs : list_all is_unbroken texts ≡ true → output_of from_root (tables_alone asked leave) (joined_lines texts) ≡ after_lines from_root (tables_alone asked leave) (scenario_from (lines_from asked.datanodes 1 texts))
   unfolding output_of scenario_of
-  outputs whole = ap (λ o. after_lines from_root (tables_alone asked leave) (scenario_from o)) (lines_are texts whole)
+  outputs whole = ap (λ o. after_lines from_root (tables_alone asked leave) (scenario_from o)) (lines_are asked.datanodes texts whole)
 
   no_history : (events : History) (p : Printed) → with_history false events p ≡ p
   no_history events p = at (p.status == 0)
@@ -124,23 +124,23 @@ module _ (asked : LiveSetup) (leave : Bool) (texts : List (List ℕ)) where
   has_run : (threads : Bool) (printed : Printed) → list_all is_unbroken texts ≡ true → IsPrinted threads (tables_alone asked leave) (joined_lines texts) printed → printed.status ≡ 0
       → HasRun asked texts printed.text
   has_run threads printed whole is status =
-      let same : printed ≡ after_lines from_root (tables_alone asked leave) (scenario_from (lines_from 1 texts)) = is.is ∙ no_history is.events _ ∙ outputs whole in
-      subst (λ (p : Printed). HasRun asked texts p.text) (sym same) (run_of_lines (lines_from 1 texts) refl (ap (λ (p : Printed). p.status) (sym same) ∙ status))
+      let same : printed ≡ after_lines from_root (tables_alone asked leave) (scenario_from (lines_from asked.datanodes 1 texts)) = is.is ∙ no_history is.events _ ∙ outputs whole in
+      subst (λ (p : Printed). HasRun asked texts p.text) (sym same) (run_of_lines (lines_from asked.datanodes 1 texts) refl (ap (λ (p : Printed). p.status) (sym same) ∙ status))
 
 -- ---- The txid of the log's end.
 
-number_read : (texts : List (List ℕ)) (tx : Tx) → IsReadIn texts tx → IsNumber tx.txid
-number_read [] tx is = absurd is
-number_read (text ∷ texts) tx is = elim is [
-  | inl this ↦ (either_line_ok text (either.Edit tx) this.read).2.in_range
-  | inr later ↦ number_read texts tx later
+number_read : (datanodes : ℕ) (texts : List (List ℕ)) (tx : Tx) → IsReadIn datanodes texts tx → IsNumber tx.txid
+number_read datanodes [] tx is = absurd is
+number_read datanodes (text ∷ texts) tx is = elim is [
+  | inl this ↦ (either_line_ok datanodes text (either.Edit tx) this.read).2.in_range
+  | inr later ↦ number_read datanodes texts tx later
 ]
 
-log_is_below : (texts : List (List ℕ)) (n : Namespace) (last : ℕ) (txs : List Tx) → IsLog n last txs → All (IsReadIn texts) txs → IsNumber last → IsNumber (last + length txs)
-log_is_below texts n last [] log all small = omega (arith, small)
-log_is_below texts n last (tx ∷ txs) log all small =
-    let own = number_read texts tx (All-head (IsReadIn texts) tx txs all) in
-    let rest = log_is_below texts (effect n tx.edit) tx.txid txs log.2 (All-tail (IsReadIn texts) tx txs all) own in
+log_is_below : (datanodes : ℕ) (texts : List (List ℕ)) (n : Namespace) (last : ℕ) (txs : List Tx) → IsLog n last txs → All (IsReadIn datanodes texts) txs → IsNumber last → IsNumber (last + length txs)
+log_is_below datanodes texts n last [] log all small = omega (arith, small)
+log_is_below datanodes texts n last (tx ∷ txs) log all small =
+    let own = number_read datanodes texts tx (All-head (IsReadIn datanodes texts) tx txs all) in
+    let rest = log_is_below datanodes texts (effect n tx.edit) tx.txid txs log.2 (All-tail (IsReadIn datanodes texts) tx txs all) own in
     omega (arith, rest, log.0)
 
 -- ---- The promotion, and the tables.
@@ -193,7 +193,7 @@ module _ (asked : LiveSetup) (texts : List (List ℕ)) (printed : List ℕ) (who
   last_is_number : IsNumber run.end.last
   last_is_number =
       let e = ended_alike in
-      let below = log_is_below texts root_alone 0 behind.log e.step.has_log.log (follows_what_came asked root_alone 0 texts whole) (omega arith) in
+      let below = log_is_below asked.datanodes texts root_alone 0 behind.log e.step.has_log.log (follows_what_came asked root_alone 0 texts whole) (omega arith) in
       let same = e.step.has_log.last in
       let end = e.last in
       omega (arith, below, same, end)
@@ -219,9 +219,9 @@ module _ (asked : LiveSetup) (texts : List (List ℕ)) (printed : List ℕ) (who
       let is_active : (served asked root_alone 0 (texts ++ promotion ∷ [])).phase.active ≡ true = ap (λ (s : ServiceState). s.phase.active) served_so in
       let picture = answers_the_picture asked root_alone 0 (texts ++ promotion ∷ []) root_alone_is_well_formed.blocks is_active in
       subst (λ (s : ServiceState). (does asked kind.Tables s).written
-      ≡ s.written ++ (listing_text s.standby.last s.standby.namespace ++ tables_text asked.permille asked.min s.standby.namespace (items s.sent))) served_so picture
+      ≡ s.written ++ (listing_text s.standby.last s.standby.namespace ++ tables_text asked.datanodes asked.permille asked.min s.standby.namespace (items s.sent))) served_so picture
       ∙ ap (λ text. active.written ++ text)
-      ((λ j. listing_text (e.last j) (e.namespace j) ++ tables_text asked.permille asked.min (e.namespace j) (items (e.sent j))) ∙ sym run.is)
+      ((λ j. listing_text (e.last j) (e.namespace j) ++ tables_text asked.datanodes asked.permille asked.min (e.namespace j) (items (e.sent j))) ∙ sym run.is)
 
   -- and once it was asked for its tables
   abbrev last_of_all : ServiceState
@@ -269,7 +269,7 @@ module _ (asked : LiveSetup) (texts : List (List ℕ)) (printed : List ℕ) (who
   served_alike : IsServedAlike asked texts printed
   served_alike = record {
     txid = run.end.last;
-    rest = flat_map row_line run.end.namespace.rows ++ tables_text asked.permille asked.min run.end.namespace (items (lanes_of_steps (steps_of run.lines)));
+    rest = flat_map row_line run.end.namespace.rows ++ tables_text asked.datanodes asked.permille asked.min run.end.namespace (items (lanes_of_steps (steps_of run.lines)));
     first_line = run.is ∙ first_line_of run.end _;
     told = told_before;
     silent = told_none;

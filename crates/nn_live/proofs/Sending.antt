@@ -25,7 +25,7 @@ use Rattle.nn_live.specs.declared.word.Word.TheVariants as kind
 
 pub takes_or_tells_each_report : TakesOrTellsEachReport
 unfolding takes
-takes_or_tells_each_report asked s text r is = rw (is.not_blank, is.no_word, is.read) (at (hand_refusal 256 s.phase s.standby (message_in_turn s.sent r)))
+takes_or_tells_each_report asked s text r is = rw (is.not_blank, is.no_word, is.read) (at (hand_refusal asked.datanodes s.phase s.standby (message_in_turn s.sent r)))
   where
     at : (o : Option HandCause) → IsTakenOrTold asked r s (takes_message asked true (message_in_turn s.sent r) o (λ t. t) (counts_line s))
     at None = inl (refl, refl)
@@ -87,11 +87,11 @@ module _ (asked : LiveSetup) where
   read text (Ok (either.Report r)) none s = absurd (none r refl)
   read text (Err fault) none s = refl
 
-  line : (text : List ℕ) → SendsNothing text → (s : ServiceState) → (b : Bool) → is_blank text ≡ b → (w : Option Word) → word_in text ≡ w
+  line : (text : List ℕ) → SendsNothing asked.datanodes text → (s : ServiceState) → (b : Bool) → is_blank text ≡ b → (w : Option Word) → word_in text ≡ w
       → Same s (cond b (counts_line s) (takes_word asked text w (counts_line s)))
   line text none s true e w f = refl
   line text none s false e (Some w) f = word w (λ dn is. none.no_gone dn (f ∙ is)) (counts_line s)
-  line text none s false e None f = read text (either_of_line text) (λ r is. none.no_report r (record { not_blank = e; no_word = f; read = is })) (counts_line s)
+  line text none s false e None f = read text (either_of_line asked.datanodes text) (λ r is. none.no_report r (record { not_blank = e; no_word = f; read = is })) (counts_line s)
 
 pub nothing_else_is_sent : NothingElseIsSent
 unfolding takes

@@ -60,17 +60,17 @@ hand_txs (l ∷ lines) p e = at (hand_txs lines) (is_start l.tx.edit) refl (is_e
     at later false starts true ends e = more (none lines (with_line p l) e) starts
     at later false starts false ends e = more (later (with_line p l) e) starts
 
-abbrev Read : EditLine → Type 0
-Read l = IsEdit l.text l.tx
-
-hand_read : (lines : List EditLine) → All Read lines → list_all is_unbroken (texts_of lines) ≡ true → (p : Part) → AreRead p → AreRead (hand lines p)
-hand_read [] are unbroken p read = read
-hand_read (l ∷ lines) are unbroken p read =
+hand_read : (datanodes : ℕ) (lines : List EditLine) → All (λ (l : EditLine). IsEdit datanodes l.text l.tx) lines → list_all is_unbroken (texts_of lines) ≡ true → (p : Part) → AreRead p → AreRead (hand lines p)
+hand_read datanodes [] are unbroken p read = read
+hand_read datanodes (l ∷ lines) are unbroken p read =
     let both = and_parts (is_unbroken l.text) (list_all is_unbroken (texts_of lines)) unbroken in
-    hand_read lines (All-tail Read l lines are) both.1 _ (one (is_start l.tx.edit) both.0)
+    hand_read datanodes lines (All-tail Read l lines are) both.1 _ (one (is_start l.tx.edit) both.0)
   where
+    Read : EditLine → Type 0
+    Read m = IsEdit datanodes m.text m.tx
+
     with_one : is_unbroken l.text ≡ true → (q : Part) → AreRead q → AreRead (with_line q l)
-    with_one unbroken q read = let e = edit_read l.text l.tx (All-head Read l lines are).read in one_more_read q l.text l.tx read unbroken e.0 e.1
+    with_one unbroken q read = let e = edit_read datanodes l.text l.tx (All-head Read l lines are).read in one_more_read q l.text l.tx read unbroken e.0 e.1
 
     one : (b : Bool) → is_unbroken l.text ≡ true → AreRead (with_line (cond b no_lines p) l)
     one true unbroken = with_one unbroken no_lines none_read

@@ -89,10 +89,10 @@ module _ (n : Namespace) (base : ℕ) where
     whole = λ a. absurd (cc);
   }
 
-  message : (txs : List Tx) (x : StandbyState) (phase : Phase) (sent : Lanes) (told : History) (m : Message) → ServiceStandsAt n base txs x phase.active sent told
-      → hand_refusal 256 phase x m ≡ None → ServiceStandsAt n base txs (without_history (received x m)) phase.active (followed_by sent m) (told ++ (received x m).history)
-  message txs x phase sent told m i e =
-      let r = no_refusal_hands 256 phase x m e in
+  message : (txs : List Tx) (x : StandbyState) (phase : Phase) (sent : Lanes) (told : History) (count : ℕ) (m : Message) → ServiceStandsAt n base txs x phase.active sent told
+      → hand_refusal count phase x m ≡ None → ServiceStandsAt n base txs (without_history (received x m)) phase.active (followed_by sent m) (told ++ (received x m).history)
+  message txs x phase sent told count m i e =
+      let r = no_refusal_hands count phase x m e in
       let a : phase.active ≡ false = r.2.not_active in
       let by = receives n base txs sent (with_past told x) m (i.stands a) r.1 in
       now_at txs (followed_by sent m) told (received x m) phase.active a (subst (StandsBy n base txs (followed_by sent m)) (receives_after told x m) by)
@@ -142,13 +142,13 @@ module _ (asked : LiveSetup) (n : Namespace) (base : ℕ) where
   either_way false s t i j = j
 
   pub one_report : (own : Bool) (m : Message) (rest : ServiceState → ServiceState) → ((t : ServiceState) → Is t → Is (rest t)) → (s : ServiceState) → Is s
-      → (r : Option HandCause) → hand_refusal 256 s.phase s.standby m ≡ r → Is (takes_message asked own m r rest s)
-  one_report own m rest later s i None e = later _ (message n base s.log s.standby s.phase s.sent s.told m i e)
+      → (r : Option HandCause) → hand_refusal asked.datanodes s.phase s.standby m ≡ r → Is (takes_message asked own m r rest s)
+  one_report own m rest later s i None e = later _ (message n base s.log s.standby s.phase s.sent s.told asked.datanodes m i e)
   one_report own m rest later s i (Some cause) e = i
 
   pub all_reports : (own : Bool) (reports : List Report) (s : ServiceState) → Is s → Is (hands asked own reports s)
   all_reports own [] s i = i
-  all_reports own (r ∷ reports) s i = one_report own (message_in_turn s.sent r) (λ t. hands asked own reports t) (all_reports own reports) s i (hand_refusal 256 s.phase s.standby (message_in_turn s.sent r)) refl
+  all_reports own (r ∷ reports) s i = one_report own (message_in_turn s.sent r) (λ t. hands asked own reports t) (all_reports own reports) s i (hand_refusal asked.datanodes s.phase s.standby (message_in_turn s.sent r)) refl
 
   pub one_tx : (tx : Tx) (rest : ServiceState → ServiceState) → ((t : ServiceState) → Is t → Is (rest t)) → (s : ServiceState) → Is s
       → (r : Option ApplyFault) → apply_refusal s.phase s.standby tx ≡ r → Is (applies asked tx r rest s)
@@ -200,7 +200,7 @@ module _ (asked : LiveSetup) (n : Namespace) (base : ℕ) where
 
   word_or_read : (text : List ℕ) (w : Option Word) (s : ServiceState) → Is s → Is (takes_word asked text w s)
   word_or_read text (Some w) s i = word w s i
-  word_or_read text None s i = read text (either_of_line text) s i
+  word_or_read text None s i = read text (either_of_line asked.datanodes text) s i
 
   line : (text : List ℕ) (s : ServiceState) → Is s → Is (takes asked text s)
   unfolding takes
@@ -222,11 +222,11 @@ stands_at_its_log asked n base texts w = from_first asked n base w texts
 module _ (asked : LiveSetup) where
   abbrev text_of : Lanes → StandbyState → (ℕ → ℕ → Option Replica) → (ℕ → ℕ → Bool) → List ℕ
   text_of lanes x replica has_order =
-      of_each lanes (λ id dn. replica_text id (block_at x.namespace id) dn (replica dn id))
-      ++ of_each lanes (λ id dn. order_text id dn (has_order dn id)) ++ blocks_line (safe_mode_of asked.permille asked.min x.namespace replica)
+      of_each asked.datanodes lanes (λ id dn. replica_text id (block_at x.namespace id) dn (replica dn id))
+      ++ of_each asked.datanodes lanes (λ id dn. order_text id dn (has_order dn id)) ++ blocks_line (safe_mode_of asked.datanodes asked.permille asked.min x.namespace replica)
 
   tables_are : (x : StandbyState) (lanes : Lanes) → ShowsPicture x.namespace lanes (tables_of x)
-      → tables_now asked.permille asked.min lanes x ≡ tables_text asked.permille asked.min x.namespace lanes
+      → tables_now asked.datanodes asked.permille asked.min lanes x ≡ tables_text asked.datanodes asked.permille asked.min x.namespace lanes
   tables_are x lanes p = λ j. text_of lanes x (λ dn id. p.replicas dn id j) (λ dn id. p.orders dn id j)
 
 pub answers_the_picture : AnswersThePicture

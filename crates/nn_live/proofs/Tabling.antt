@@ -1,5 +1,5 @@
 -- The tables of the code are those of the definition's service.
-use Rattle.std.proofs.Common.{◌≡◌, ℕ, Bool, true, false, cond, not, ◌==◌, ◌||◌, List, [], ◌∷◌, ◌++◌, map, Option, None, is_some, refl, sym, ap, ap₂, ◌∙◌}
+use Rattle.std.proofs.Common.{◌≡◌, ℕ, Bool, true, false, cond, not, ◌==◌, ◌||◌, List, [], ◌∷◌, ◌++◌, length, map, Option, None, is_some, refl, sym, ap, ap₂, ◌∙◌}
 use Rattle.std.specs.Prelude.{filter}
 use Rattle.std.specs.List.{list_any}
 use Rattle.nn_types.specs.declared.report.Message.{Message}
@@ -65,8 +65,8 @@ not_there n base s l dn id unsaid = at s.phase.active refl
 
 -- ---- So the table lists just what is looked up in it.
 
-module _ (x : Service) (shows : Shows x.shadow.namespace x.shadow.table) where
-  pub of_said : (asked : LiveSetup) (s : ServiceState) → IsAtService asked x s → IsOfSaid x.shadow.namespace (items s.sent) x.shadow.table
+module _ (x : Service) (shows : Shows (length x.shadow.numbers) x.shadow.namespace x.shadow.table) where
+  pub of_said : (asked : LiveSetup) (s : ServiceState) → IsAtService asked x s → IsOfSaid (length x.shadow.numbers) x.shadow.namespace (items s.sent) x.shadow.table
   of_said asked s i = record {
     shows = shows;
     replicas = λ dn id unsaid. ap (λ (y : StandbyState). y.replica dn id) i.standby ∙ (not_there i.log.0 i.log.1 s i.log.2 dn id unsaid).0;
@@ -74,8 +74,8 @@ module _ (x : Service) (shows : Shows x.shadow.namespace x.shadow.table) where
   }
 
   pub tables_told : (text : List ℕ)
-      → ((n : Namespace) (lanes : Lanes) → IsOfSaid n lanes x.shadow.table → text ≡ tables_seen n lanes x)
+      → ((n : Namespace) (lanes : Lanes) → IsOfSaid (length x.shadow.numbers) n lanes x.shadow.table → text ≡ tables_seen n lanes x)
       → FollowsStep (λ asked s. does asked word.Tables s) x x (listing_text x.shadow.last x.shadow.namespace ++ text)
   tables_told text is = only_tells (λ asked s. does asked word.Tables s) x _ (λ asked s i.
       (sym (ap (λ t. says (listing_text x.shadow.last x.shadow.namespace ++ t) s) (is x.shadow.namespace (items s.sent) (of_said asked s i))
-      ∙ ap₂ (λ (y : StandbyState) (a : LiveSetup). says (listing_text y.last y.namespace ++ tables_now a.permille a.min (items s.sent) y) s) i.standby (sym i.asks))))
+      ∙ ap₂ (λ (y : StandbyState) (a : LiveSetup). says (listing_text y.last y.namespace ++ tables_now a.datanodes a.permille a.min (items s.sent) y) s) i.standby (sym i.asks))))

@@ -139,33 +139,33 @@ order_line : (id dn : ℕ) (b : Bool) → Ends (order_text id dn b)
 order_line id dn true = rw ends-append refl
 order_line id dn false = refl
 
-of_all : (lanes : Lanes) (text : ℕ → ℕ → List ℕ) → ((id dn : ℕ) → Ends (text id dn)) → Ends (of_each lanes text)
-of_all lanes text e = each (λ id. flat_map (text id) datanodes) (λ id. each (text id) (e id) datanodes) (said_ids lanes)
+of_all : (count : ℕ) (lanes : Lanes) (text : ℕ → ℕ → List ℕ) → ((id dn : ℕ) → Ends (text id dn)) → Ends (of_each count lanes text)
+of_all count lanes text e = each (λ id. flat_map (text id) (datanodes count)) (λ id. each (text id) (e id) (datanodes count)) (said_ids count lanes)
 
-tables : (permille min : ℕ) (lanes : Lanes) (x : StandbyState) → Ends (tables_now permille min lanes x)
-tables permille min lanes x =
-    let replicas = replica_lines_by x.namespace lanes x.replica in
-    let orders = order_lines_by lanes x.has_order in
-    both (replicas ++ orders) (blocks_line (safe_mode_of permille min x.namespace x.replica))
-    (both replicas orders (of_all lanes _ (λ id dn. replica_line id dn (block_at x.namespace id) (x.replica dn id))) (of_all lanes _ (λ id dn. order_line id dn (x.has_order dn id)))) (rw ends-append refl)
+tables : (count permille min : ℕ) (lanes : Lanes) (x : StandbyState) → Ends (tables_now count permille min lanes x)
+tables count permille min lanes x =
+    let replicas = replica_lines_by count x.namespace lanes x.replica in
+    let orders = order_lines_by count lanes x.has_order in
+    both (replicas ++ orders) (blocks_line (safe_mode_of count permille min x.namespace x.replica))
+    (both replicas orders (of_all count lanes _ (λ id dn. replica_line id dn (block_at x.namespace id) (x.replica dn id))) (of_all count lanes _ (λ id dn. order_line id dn (x.has_order dn id)))) (rw ends-append refl)
 
-about : (x : StandbyState) (id : ℕ) → Ends (about_block x id)
-about x id =
+about : (count : ℕ) (x : StandbyState) (id : ℕ) → Ends (about_block count x id)
+about count x id =
     let waiting = filter (λ (m : Message). m.block == id) x.held in
-    both (replicas_text x id) (orders_text x id ++ flat_map held_line waiting)
-    (each _ (λ dn. replica_line id dn (block_at x.namespace id) (x.replica dn id)) datanodes)
-    (both (orders_text x id) (flat_map held_line waiting) (each _ (λ dn. order_line id dn (x.has_order dn id)) datanodes) (each held_line one_held waiting))
+    both (replicas_text count x id) (orders_text count x id ++ flat_map held_line waiting)
+    (each _ (λ dn. replica_line id dn (block_at x.namespace id) (x.replica dn id)) (datanodes count))
+    (both (orders_text count x id) (flat_map held_line waiting) (each _ (λ dn. order_line id dn (x.has_order dn id)) (datanodes count)) (each held_line one_held waiting))
 
 holder : (p : Path) (b : Block) → Ends (block_line p b)
 holder p b = rw ends-append refl
 
-block : (x : StandbyState) (id : ℕ) → Ends (block_answer x id)
-block x id =
-    both (holder_text x.namespace id) (about_block x id)
-    (each (holder_lines id) (λ row. each (block_line row.0) (holder row.0) (filter (λ b. b.id == id) (blocks_of row.1))) x.namespace.rows) (about x id)
+block : (count : ℕ) (x : StandbyState) (id : ℕ) → Ends (block_answer count x id)
+block count x id =
+    both (holder_text x.namespace id) (about_block count x id)
+    (each (holder_lines id) (λ row. each (block_line row.0) (holder row.0) (filter (λ b. b.id == id) (blocks_of row.1))) x.namespace.rows) (about count x id)
 
-replicas : (x : StandbyState) (id : ℕ) → Ends (replicas_answer x id)
-replicas x id = both (head_text (block_at x.namespace id)) (about_block x id) (head (block_at x.namespace id)) (about x id)
+replicas : (count : ℕ) (x : StandbyState) (id : ℕ) → Ends (replicas_answer count x id)
+replicas count x id = both (head_text (block_at x.namespace id)) (about_block count x id) (head (block_at x.namespace id)) (about count x id)
   where
     head : (b : Option Block) → Ends (head_text b)
     head None = refl
@@ -198,10 +198,10 @@ counts c = simp ends-append
 
 summary : (x : Summary) → Ends (summary_text x)
 unfolding summary_text
-summary x = simp (ends-append, each (λ dn. sender_text dn (x.senders dn)) (λ dn. sender dn (x.senders dn)) datanodes, counts x.counts)
+summary x = simp (ends-append, each (λ dn. sender_text dn (x.senders dn)) (λ dn. sender dn (x.senders dn)) (datanodes x.datanodes), counts x.counts)
 
 status : (f : Figures) → Ends (status_lines f)
-status f = simp (ends-append, each (full_line f.full) (λ dn. either_text (f.full dn) _ _ (key_line (codes "full") (decimal dn)) refl) datanodes, summary f.standby)
+status f = simp (ends-append, each (full_line f.full) (λ dn. either_text (f.full dn) _ _ (key_line (codes "full") (decimal dn)) refl) (datanodes f.standby.datanodes), summary f.standby)
 
 help : Ends help_text
 help = each (λ l. l ++ line_feed ∷ []) (λ l. rw ends-append refl) help_lines
@@ -282,7 +282,7 @@ module _ (asked : LiveSetup) where
   all_reports own [] s w p = stays s w p
   all_reports own (r ∷ reports) s w p =
       one_report own (message_in_turn s.sent r) (λ t. hands quiet own reports t) (λ t. hands loud own reports t) (all_reports own reports)
-      (hand_refusal 256 s.phase s.standby (message_in_turn s.sent r)) s w p
+      (hand_refusal asked.datanodes s.phase s.standby (message_in_turn s.sent r)) s w p
 
   one_tx : (tx : Tx) (f g : ServiceState → ServiceState) → Steps f g → (r : Option ApplyFault) → Steps (applies quiet tx r f) (applies loud tx r g)
   one_tx tx f g later None s w p = on f g later _ _ (came (applied_to s.standby tx) (record s { log = s.log ++ tx ∷ [] }) w p)
@@ -319,20 +319,20 @@ module _ (asked : LiveSetup) where
   does_step word.Sync s w p = stays s w p
   does_step word.Status s w p = said _ (status (live_figures quiet s)) s w p
   does_step (word.Held most) s w p = said _ (first most _ (held s.standby.held)) s w p
-  does_step (word.Unsafe most) s w p = said _ (first most _ (unsafe_lines asked.min s.standby.replica s.standby.namespace.rows)) s w p
-  does_step (word.Block id) s w p = said _ (block s.standby id) s w p
+  does_step (word.Unsafe most) s w p = said _ (first most _ (unsafe_lines asked.datanodes asked.min s.standby.replica s.standby.namespace.rows)) s w p
+  does_step (word.Block id) s w p = said _ (block asked.datanodes s.standby id) s w p
   does_step (word.Path x) s w p = said _ (path x (lookup s.standby.namespace x)) s w p
   does_step word.Tables s w p =
       let x = s.standby in
       let texts =
-      both (listing_text x.last x.namespace) (tables_now asked.permille asked.min (items s.sent) x) (listing x.last x.namespace) (tables asked.permille asked.min (items s.sent) x) in
+      both (listing_text x.last x.namespace) (tables_now asked.datanodes asked.permille asked.min (items s.sent) x) (listing x.last x.namespace) (tables asked.datanodes asked.permille asked.min (items s.sent) x) in
       said _ texts s w p
   does_step word.Checkpoint s w p = said _ (image s.standby.namespace s.standby.last) s w p
   does_step (word.Gone dn) s w p = all_reports false (empty_report dn) s w p
   does_step (word.Seen txid) s w p = stays _ w p
   does_step (word.Epoch epoch) s w p = stays _ w p
   does_step (word.Promote txid epoch lost) s w p = either_step (ltb epoch s.epoch) _ _ _ _ (fault_told STALE_EPOCH (codes " epoch ") s.epoch s w p) (promoted txid lost (flush_refusal s.phase) (names epoch s) w p)
-  does_step (word.Replicas id) s w p = said _ (replicas s.standby id) s w p
+  does_step (word.Replicas id) s w p = said _ (replicas asked.datanodes s.standby id) s w p
   does_step word.Help s w p = said _ help s w p
   does_step word.Unknown s w p = said _ unknown s w p
 
@@ -346,7 +346,7 @@ module _ (asked : LiveSetup) where
 
   word_or_read : (text : List ℕ) (o : Option Word) → Steps (takes_word quiet text o) (takes_word loud text o)
   word_or_read text (Some a) s w p = answer a s w p
-  word_or_read text None s w p = read text (either_of_line text) s w p
+  word_or_read text None s w p = read text (either_of_line asked.datanodes text) s w p
 
   one_line : (text : List ℕ) → Steps (takes quiet text) (takes loud text)
   unfolding takes
@@ -359,7 +359,7 @@ module _ (asked : LiveSetup) where
 
   tears : (text : List ℕ) (o : Option Word) → Steps (tears_word text o quiet) (tears_word text o loud)
   tears text (Some a) s w p = fault_told NOT_JSON (codes " line ") s.lines s w p
-  tears text None s w p = read text (either_of_line text) s w p
+  tears text None s w p = read text (either_of_line asked.datanodes text) s w p
 
   torn_line : (text : List ℕ) → Steps (takes_torn quiet text) (takes_torn loud text)
   unfolding takes_torn

@@ -235,12 +235,12 @@ module _ (asked : LiveSetup) where
   run_blind [] s = refl
   run_blind (l ∷ lines) s = alike asked (run lines) (run_blind lines) _ _ (alike asked (takes_edit asked l) (edit_blind asked l) (counts_line s) (counts_line (bare s)) refl)
 
-  one_line : (l : EditLine) → IsEdit l.text l.tx → (s : ServiceState) → takes asked l.text s ≡ takes_edit asked l (counts_line s)
+  one_line : (l : EditLine) → IsEdit asked.datanodes l.text l.tx → (s : ServiceState) → takes asked l.text s ≡ takes_edit asked l (counts_line s)
   unfolding takes
   one_line l is s = rw (is.not_blank, is.no_word, is.read) refl
 
   abbrev Read : EditLine → Type 0
-  Read l = IsEdit l.text l.tx
+  Read l = IsEdit asked.datanodes l.text l.tx
 
   pub all_run : (lines : List EditLine) → All Read lines → (s : ServiceState) → takes_all asked (texts_of lines) s ≡ run lines s
   unfolding takes_all
@@ -284,12 +284,12 @@ pub record HasStart (lines : List EditLine) : Type 0 where
   pub starts : is_start first.tx.edit ≡ true
   pub ends : ends_once (edits rest) ≡ true
 
-pub has_start : (lines : List EditLine) → AreSegmentLines lines → HasStart lines
-has_start [] are = absurd (never are.starts)
+pub has_start : (datanodes : ℕ) (lines : List EditLine) → AreSegmentLines datanodes lines → HasStart lines
+has_start datanodes [] are = absurd (never are.starts)
   where
     never : starts (edits []) ≡ true → ⊥
     never e = absurd (cc)
-has_start (l ∷ lines) are = record { first = l; rest = lines; are = refl; starts = are.starts; ends = are.ends }
+has_start datanodes (l ∷ lines) are = record { first = l; rest = lines; are = refl; starts = are.starts; ends = are.ends }
 
 module _ (asked : LiveSetup) (l : EditLine) (lines : List EditLine) (starts : is_start l.tx.edit ≡ true) (ends : ends_once (edits lines) ≡ true) where
   -- the segment's part
@@ -355,31 +355,31 @@ module _ (asked : LiveSetup) where
   all_append [] ys s = refl
   all_append (x ∷ xs) ys s = all_append xs ys (takes asked x s)
 
-  segment_twice : (lines : List EditLine) → AreSegmentLines lines → (s : ServiceState)
+  segment_twice : (lines : List EditLine) → AreSegmentLines asked.datanodes lines → (s : ServiceState)
       → bare (takes_all asked (texts_of lines) (takes_all asked (texts_of lines) s)) ≡ bare (takes_all asked (texts_of lines) s)
   segment_twice lines are s =
-      let h = has_start lines are in
+      let h = has_start asked.datanodes lines are in
       let once = ap bare (all_run asked lines are.read s) in
       ap bare (all_run asked lines are.read (takes_all asked (texts_of lines) s))
       ∙ alike asked (run asked lines) (run_blind asked lines) _ _ once
       ∙ subst (λ ls. bare (run asked ls (run asked ls s)) ≡ bare (run asked ls s)) (sym h.are) (again asked h.first h.rest h.starts h.ends s)
       ∙ sym once
 
-  sends : (all : List Sending) → All IsSending all → (s t : ServiceState) → bare s ≡ bare t
+  sends : (all : List Sending) → All (IsSending asked.datanodes) all → (s t : ServiceState) → bare s ≡ bare t
       → bare (takes_all asked (flat_map sent_once all) s) ≡ bare (takes_all asked (flat_map sent_twice all) t)
   unfolding takes_all
   sends [] are s t e = e
   sends (segment lines ∷ all) are s t e =
       let one = texts_of lines in
       let same : bare (takes_all asked one s) ≡ bare (takes_all asked one (takes_all asked one t)) =
-      alike asked (takes_all asked one) (all_lines asked one) s t e ∙ sym (segment_twice lines (All-head IsSending (segment lines) all are) t) in
+      alike asked (takes_all asked one) (all_lines asked one) s t e ∙ sym (segment_twice lines (All-head (IsSending asked.datanodes) (segment lines) all are) t) in
       ap bare (all_append one (flat_map sent_once all) s)
-      ∙ sends all (All-tail IsSending (segment lines) all are) (takes_all asked one s) (takes_all asked one (takes_all asked one t)) same
+      ∙ sends all (All-tail (IsSending asked.datanodes) (segment lines) all are) (takes_all asked one s) (takes_all asked one (takes_all asked one t)) same
       ∙ sym (ap bare (all_append (one ++ one) (flat_map sent_twice all) t) ∙ ap (λ u. bare (takes_all asked (flat_map sent_twice all) u)) (all_append one one t))
   sends (other text ∷ all) are s t e =
       let one = text ∷ [] in
       ap bare (all_append one (flat_map sent_once all) s)
-      ∙ sends all (All-tail IsSending (other text) all are) (takes_all asked one s) (takes_all asked one t) (alike asked (takes_all asked one) (all_lines asked one) s t e)
+      ∙ sends all (All-tail (IsSending asked.datanodes) (other text) all are) (takes_all asked one s) (takes_all asked one t) (alike asked (takes_all asked one) (all_lines asked one) s t e)
       ∙ sym (ap bare (all_append one (flat_map sent_twice all) t))
 
 pub may_be_sent_twice : MayBeSentTwice

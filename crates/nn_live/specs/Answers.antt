@@ -58,7 +58,7 @@ status_lines f =
     line (codes "state") (state_answer f.stopped f.active (nat_lt f.promoted f.epoch)) ++ line (codes "version") f.version
     ++ line (codes "known") (decimal f.known) ++ line (codes "passed") (decimal f.passed) ++ line (codes "segments") (decimal f.segments)
     ++ line (codes "edits") (and_number (decimal f.edits) f.last_edit) ++ line (codes "epoch") (and_number (decimal f.epoch) f.promoted)
-    ++ flat_map (full_line f.full) datanodes ++ summary_text f.standby
+    ++ flat_map (full_line f.full) (datanodes f.standby.datanodes) ++ summary_text f.standby
 
 -- ---- What waits.
 
@@ -86,19 +86,21 @@ holder_lines id row = flat_map (block_line row.0) (filter (λ b. b.id == id) (bl
 abbrev pub holder_text : Namespace → ℕ → List ℕ
 holder_text n id = flat_map (holder_lines id) n.rows
 
-abbrev pub replicas_text : StandbyState → ℕ → List ℕ
-replicas_text x id = flat_map (λ dn. replica_text id (block_at x.namespace id) dn (x.replica dn id)) datanodes
+-- the lines of its replicas, where there are so many DataNodes
+abbrev pub replicas_text : ℕ → StandbyState → ℕ → List ℕ
+replicas_text count x id = flat_map (λ dn. replica_text id (block_at x.namespace id) dn (x.replica dn id)) (datanodes count)
 
-abbrev pub orders_text : StandbyState → ℕ → List ℕ
-orders_text x id = flat_map (λ dn. order_text id dn (x.has_order dn id)) datanodes
+-- and of its orders
+abbrev pub orders_text : ℕ → StandbyState → ℕ → List ℕ
+orders_text count x id = flat_map (λ dn. order_text id dn (x.has_order dn id)) (datanodes count)
 
 -- a block's replicas, its orders, and what waits for it
-abbrev pub about_block : StandbyState → ℕ → List ℕ
-about_block x id = replicas_text x id ++ (orders_text x id ++ flat_map held_line (filter (λ m. m.block == id) x.held))
+abbrev pub about_block : ℕ → StandbyState → ℕ → List ℕ
+about_block count x id = replicas_text count x id ++ (orders_text count x id ++ flat_map held_line (filter (λ m. m.block == id) x.held))
 
 -- behind the line of its file
-abbrev pub block_answer : StandbyState → ℕ → List ℕ
-block_answer x id = holder_text x.namespace id ++ about_block x id
+abbrev pub block_answer : ℕ → StandbyState → ℕ → List ℕ
+block_answer count x id = holder_text x.namespace id ++ about_block count x id
 
 -- the line without the path, of a block that a file holds
 abbrev pub head_text : Option Block → List ℕ
@@ -106,8 +108,8 @@ head_text None = []
 head_text (Some b) = block_head b ++ line_feed ∷ []
 
 -- and the same behind it
-abbrev pub replicas_answer : StandbyState → ℕ → List ℕ
-replicas_answer x id = head_text (block_at x.namespace id) ++ about_block x id
+abbrev pub replicas_answer : ℕ → StandbyState → ℕ → List ℕ
+replicas_answer count x id = head_text (block_at x.namespace id) ++ about_block count x id
 
 -- the line of a path in the tables, if anything is there
 abbrev pub path_answer : Path → Option Form → List ℕ
@@ -116,7 +118,8 @@ path_answer p (Some form) = path_line p form
 
 -- ---- The tables.
 
--- all replicas and orders that there are, where these are the items of the messages that were taken
-abbrev pub tables_now : ℕ → ℕ → Lanes → StandbyState → List ℕ
-tables_now permille min lanes x =
-    replica_lines_by x.namespace lanes x.replica ++ order_lines_by lanes x.has_order ++ blocks_line (safe_mode_of permille min x.namespace x.replica)
+-- all replicas and orders that there are, where these are the items of the messages that were taken of so many DataNodes
+abbrev pub tables_now : ℕ → ℕ → ℕ → Lanes → StandbyState → List ℕ
+tables_now count permille min lanes x =
+    replica_lines_by count x.namespace lanes x.replica ++ order_lines_by count lanes x.has_order
+    ++ blocks_line (safe_mode_of count permille min x.namespace x.replica)

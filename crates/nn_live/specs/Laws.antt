@@ -62,35 +62,35 @@ AnswersThePicture =
     → (does asked word.Tables (served asked n base texts)).written
     ≡ (served asked n base texts).written
     ++ (listing_text (served asked n base texts).standby.last (served asked n base texts).standby.namespace
-    ++ tables_text asked.permille asked.min (served asked n base texts).standby.namespace (items (served asked n base texts).sent))
+    ++ tables_text asked.datanodes asked.permille asked.min (served asked n base texts).standby.namespace (items (served asked n base texts).sent))
 
 -- ---- Which log.
 
--- the line is neither blank nor a word, and is read as this edit
-pub record IsEdit (text : List ℕ) (tx : Tx) : Type 0 where
+-- the line is neither blank nor a word, and is read as this edit where so many DataNodes report
+pub record IsEdit (datanodes : ℕ) (text : List ℕ) (tx : Tx) : Type 0 where
   pub not_blank : is_blank text ≡ false
   pub no_word : word_in text ≡ None
-  pub read : either_of_line text ≡ Ok (either.Edit tx)
+  pub read : either_of_line datanodes text ≡ Ok (either.Edit tx)
 
 -- one of the lines is read as this edit
-abbrev pub IsReadIn : List (List ℕ) → Tx → Type 0
-IsReadIn [] tx = ⊥
-IsReadIn (text ∷ texts) tx = IsEdit text tx ⊎ IsReadIn texts tx
+abbrev pub IsReadIn : ℕ → List (List ℕ) → Tx → Type 0
+IsReadIn datanodes [] tx = ⊥
+IsReadIn datanodes (text ∷ texts) tx = IsEdit datanodes text tx ⊎ IsReadIn datanodes texts tx
 
 -- each transaction of the log is an edit of the lines that came
 abbrev pub FollowsWhatCame : Type 0
 FollowsWhatCame =
-    (asked : LiveSetup) (n : Namespace) (base : ℕ) (texts : List (List ℕ)) → list_all is_unbroken texts ≡ true → All (IsReadIn texts) (served asked n base texts).log
+    (asked : LiveSetup) (n : Namespace) (base : ℕ) (texts : List (List ℕ)) → list_all is_unbroken texts ≡ true → All (IsReadIn asked.datanodes texts) (served asked n base texts).log
 
 -- ---- A promotion.
 
 -- the line says that the log has this transaction: it is its edit, or the word `seen` of it
-abbrev pub NamesTxid : List ℕ → ℕ → Type 0
-NamesTxid text txid = ((tx : Tx) × IsEdit text tx × (tx.txid ≡ txid)) ⊎ ((is_blank text ≡ false) × (word_in text ≡ Some (word.Seen txid)))
+abbrev pub NamesTxid : ℕ → List ℕ → ℕ → Type 0
+NamesTxid datanodes text txid = ((tx : Tx) × IsEdit datanodes text tx × (tx.txid ≡ txid)) ⊎ ((is_blank text ≡ false) × (word_in text ≡ Some (word.Seen txid)))
 
 -- a line names no higher one
-abbrev pub IsUpTo : ℕ → List ℕ → Type 0
-IsUpTo txid text = (other : ℕ) → NamesTxid text other → other ≤ txid
+abbrev pub IsUpTo : ℕ → ℕ → List ℕ → Type 0
+IsUpTo datanodes txid text = (other : ℕ) → NamesTxid datanodes text other → other ≤ txid
 
 -- the line names this epoch: by `epoch`, or by a promotion, refused or not
 abbrev pub NamesEpoch : List ℕ → ℕ → Type 0
@@ -103,10 +103,10 @@ IsInEpoch epoch text = (other : ℕ) → NamesEpoch text other → other ≤ epo
 
 -- a promotion without `lost` gives up no edit: the txid is the last of the log, no edit is in hand, and none of a higher txid was read or
 -- seen
-pub record GivesUpNone (txid : ℕ) (texts : List (List ℕ)) (s : ServiceState) : Type 0 where
+pub record GivesUpNone (datanodes txid : ℕ) (texts : List (List ℕ)) (s : ServiceState) : Type 0 where
   pub last : s.standby.last ≡ txid
   pub between : is_between s ≡ true
-  pub read : All (IsUpTo txid) texts
+  pub read : All (IsUpTo datanodes txid) texts
 
 -- active, and in the greatest epoch that was named: not deposed
 abbrev pub in_charge : ServiceState → Bool
@@ -120,7 +120,7 @@ pub record PutsInCharge (asked : LiveSetup) (txid epoch : ℕ) (lost : Bool) (s 
 abbrev pub PromotesAtTheEnd : Type 0
 PromotesAtTheEnd =
     (asked : LiveSetup) (n : Namespace) (base : ℕ) (texts : List (List ℕ)) (txid epoch : ℕ) → PutsInCharge asked txid epoch false (served asked n base texts)
-    → GivesUpNone txid texts (served asked n base texts)
+    → GivesUpNone asked.datanodes txid texts (served asked n base texts)
 
 -- and none is promoted, with `lost` or without, in a lower epoch than any that was named
 abbrev pub PromotesInNoLowerEpoch : Type 0
@@ -142,14 +142,14 @@ abbrev pub texts_of : List EditLine → List (List ℕ)
 texts_of lines = map (λ (l : EditLine). l.text) lines
 
 -- each line is read as its edit; the first is a start mark, the last an end mark, and no mark stands between
-pub record AreSegmentLines (lines : List EditLine) : Type 0 where
-  pub read : All (λ (l : EditLine). IsEdit l.text l.tx) lines
+pub record AreSegmentLines (datanodes : ℕ) (lines : List EditLine) : Type 0 where
+  pub read : All (λ (l : EditLine). IsEdit datanodes l.text l.tx) lines
   pub starts : starts (edits lines) ≡ true
   pub ends : ends_once (drop 1 (edits lines)) ≡ true
 
-abbrev pub IsSending : Sending → Type 0
-IsSending (segment lines) = AreSegmentLines lines
-IsSending (other text) = Unit {0}
+abbrev pub IsSending : ℕ → Sending → Type 0
+IsSending datanodes (segment lines) = AreSegmentLines datanodes lines
+IsSending datanodes (other text) = Unit {0}
 
 abbrev pub sent_once : Sending → List (List ℕ)
 sent_once (segment lines) = texts_of lines
@@ -175,16 +175,16 @@ pub record IsAlike (s t : ServiceState) : Type 0 where
 -- who sends each segment twice has the service of who sends each once
 abbrev pub MayBeSentTwice : Type 0
 MayBeSentTwice =
-    (asked : LiveSetup) (n : Namespace) (base : ℕ) (all : List Sending) → All IsSending all
+    (asked : LiveSetup) (n : Namespace) (base : ℕ) (all : List Sending) → All (IsSending asked.datanodes) all
     → IsAlike (served asked n base (flat_map sent_once all)) (served asked n base (flat_map sent_twice all))
 
 -- ---- Reports.
 
--- the line is neither blank nor a word, and is read as this report
-pub record IsReport (text : List ℕ) (r : Report) : Type 0 where
+-- the line is neither blank nor a word, and is read as this report, of one of so many DataNodes
+pub record IsReport (datanodes : ℕ) (text : List ℕ) (r : Report) : Type 0 where
   pub not_blank : is_blank text ≡ false
   pub no_word : word_in text ≡ None
-  pub read : either_of_line text ≡ Ok (either.Report r)
+  pub read : either_of_line datanodes text ≡ Ok (either.Report r)
 
 -- what was done with a message where it was taken, told where that is asked for
 abbrev pub told_of : LiveSetup → StandbyState → List ℕ
@@ -197,12 +197,12 @@ IsTakenOrTold asked r s t =
     ⊎ (t.sent ≡ s.sent) × ((cause : HandCause) × (t.written ≡ s.written ++ line (codes "fault") (decimal (number_of_hand cause) ++ codes " line " ++ decimal t.lines)))
 
 abbrev pub TakesOrTellsEachReport : Type 0
-TakesOrTellsEachReport = (asked : LiveSetup) (s : ServiceState) (text : List ℕ) (r : Report) → IsReport text r → IsTakenOrTold asked r s (takes asked text s)
+TakesOrTellsEachReport = (asked : LiveSetup) (s : ServiceState) (text : List ℕ) (r : Report) → IsReport asked.datanodes text r → IsTakenOrTold asked r s (takes asked text s)
 
 -- and no other line than `gone` sends anything
-pub record SendsNothing (text : List ℕ) : Type 0 where
-  pub no_report : (r : Report) → IsReport text r → ⊥
+pub record SendsNothing (datanodes : ℕ) (text : List ℕ) : Type 0 where
+  pub no_report : (r : Report) → IsReport datanodes text r → ⊥
   pub no_gone : (dn : ℕ) → word_in text ≡ Some (word.Gone dn) → ⊥
 
 abbrev pub NothingElseIsSent : Type 0
-NothingElseIsSent = (asked : LiveSetup) (s : ServiceState) (text : List ℕ) → SendsNothing text → (takes asked text s).sent ≡ s.sent
+NothingElseIsSent = (asked : LiveSetup) (s : ServiceState) (text : List ℕ) → SendsNothing asked.datanodes text → (takes asked text s).sent ≡ s.sent

@@ -7,7 +7,6 @@ use Rattle.nn_types.specs.declared.report.Kind.TheVariants.{Begin, Finish}
 use Rattle.nn_types.specs.declared.report.Message.{Message}
 use Rattle.nn_types.specs.declared.report.Report.{Report}
 use Rattle.nn_types.specs.declared.tx.Tx.{Tx}
-use Rattle.nn_types.specs.Limits.{max_datanodes}
 use Rattle.nn_edits.specs.Fault.{number_of as line_number_of}
 use Rattle.nn_edits.specs.Reading.{either_of_line}
 use Rattle.nn_edits.specs.declared.fault.LineFault.{LineFault}
@@ -50,6 +49,7 @@ use Rattle.nn_live.specs.declared.word.Word.TheVariants as word
 pub record LiveSetup : Type 0 where
   pub permille : ℕ
   pub min : ℕ
+  pub datanodes : ℕ  -- how many may report
   pub history : Bool
   pub version : List ℕ
 
@@ -124,7 +124,7 @@ takes_message asked own m (Some cause) rest s = tells_fault (number_of_hand caus
 abbrev pub hands : LiveSetup → Bool → List Report → ServiceState → ServiceState
 hands asked own [] s = s
 hands asked own (r ∷ reports) s =
-    takes_message asked own (message_in_turn s.sent r) (hand_refusal max_datanodes s.phase s.standby (message_in_turn s.sent r)) (λ t. hands asked own reports t) s
+    takes_message asked own (message_in_turn s.sent r) (hand_refusal asked.datanodes s.phase s.standby (message_in_turn s.sent r)) (λ t. hands asked own reports t) s
 
 -- ---- Segments.
 
@@ -223,7 +223,7 @@ live_figures asked s = record {
   epoch = s.epoch;
   promoted = s.promoted;
   full = s.full;
-  standby = summary_of asked.permille asked.min (items s.sent) s.standby;
+  standby = summary_of asked.datanodes asked.permille asked.min (items s.sent) s.standby;
 }
 
 -- a full report of no blocks: the DataNode has none of those that it had
@@ -237,16 +237,16 @@ abbrev pub does : LiveSetup → Word → ServiceState → ServiceState
 does asked word.Sync s = s
 does asked word.Status s = says (status_lines (live_figures asked s)) s
 does asked (word.Held most) s = says (first_lines most (map held_line s.standby.held)) s
-does asked (word.Unsafe most) s = says (first_lines most (unsafe_in asked.min s.standby.replica s.standby.namespace.rows)) s
-does asked (word.Block id) s = says (block_answer s.standby id) s
+does asked (word.Unsafe most) s = says (first_lines most (unsafe_in asked.datanodes asked.min s.standby.replica s.standby.namespace.rows)) s
+does asked (word.Block id) s = says (block_answer asked.datanodes s.standby id) s
 does asked (word.Path p) s = says (path_answer p (lookup s.standby.namespace p)) s
-does asked word.Tables s = says (listing_text s.standby.last s.standby.namespace ++ tables_now asked.permille asked.min (items s.sent) s.standby) s
+does asked word.Tables s = says (listing_text s.standby.last s.standby.namespace ++ tables_now asked.datanodes asked.permille asked.min (items s.sent) s.standby) s
 does asked word.Checkpoint s = says (image_text s.standby.namespace s.standby.last) s
 does asked (word.Gone dn) s = hands asked false (empty_report dn) s
 does asked (word.Seen txid) s = sees txid s
 does asked (word.Epoch epoch) s = names epoch s
 does asked (word.Promote txid epoch lost) s = promotes_in asked txid epoch lost s
-does asked (word.Replicas id) s = says (replicas_answer s.standby id) s
+does asked (word.Replicas id) s = says (replicas_answer asked.datanodes s.standby id) s
 does asked word.Help s = says help_text s
 does asked word.Unknown s = says unknown_text s
 
@@ -267,7 +267,7 @@ takes_read asked text (Err fault) s = tells_fault (line_number_of fault) (codes 
 
 abbrev pub takes_word : LiveSetup → List ℕ → Option Word → ServiceState → ServiceState
 takes_word asked text (Some w) s = answers asked w s
-takes_word asked text None s = takes_read asked text (either_of_line text) s
+takes_word asked text None s = takes_read asked text (either_of_line asked.datanodes text) s
 
 abbrev pub counts_line : ServiceState → ServiceState
 counts_line s = record s { lines = s.lines + 1 }
@@ -286,7 +286,7 @@ takes_all asked (text ∷ texts) s = takes_all asked texts (takes asked text s)
 -- a word whose line feed never came, known or not, may be a part of another one, and asks for nothing
 abbrev pub tears_word : List ℕ → Option Word → LiveSetup → ServiceState → ServiceState
 tears_word text (Some w) asked s = tells_fault NOT_JSON (codes " line ") s.lines s
-tears_word text None asked s = takes_read asked text (either_of_line text) s
+tears_word text None asked s = takes_read asked text (either_of_line asked.datanodes text) s
 
 -- the bytes behind the last line feed are a line, if there are any
 unfoldable pub takes_torn : LiveSetup → List ℕ → ServiceState → ServiceState

@@ -28,7 +28,7 @@ abbrev pub lines : List (List ℕ) → List ℕ
 lines each = flat_map (λ l. l ++ line_feed ∷ []) each
 
 abbrev pub asks : Bool → LiveSetup
-asks history = record { permille = 999; min = 1; history = history; version = codes "1.2.3" }
+asks history = record { permille = 999; min = 1; datanodes = 256; history = history; version = codes "1.2.3" }
 
 -- all that is written for these lines by a service that began with the root alone
 abbrev pub live : List (List ℕ) → List ℕ

@@ -19,7 +19,7 @@ use Rattle.nn_live.specs.declared.run.LiveOptions.{LiveOptions}
 -- ---- What it is asked for, and what it was given.
 
 abbrev pub asked_by : LiveOptions → LiveSetup
-asked_by o = record { permille = o.settings.permille; min = o.settings.min; history = o.history; version = o.version.now }
+asked_by o = record { permille = o.settings.permille; min = o.settings.min; datanodes = o.datanodes; history = o.history; version = o.version.now }
 
 -- its reader before and after
 pub record Run : Type 0 where

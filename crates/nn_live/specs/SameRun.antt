@@ -11,6 +11,7 @@ use Rattle.nn_live.specs.Live.{LiveSetup, live_text, stage_at_end, exit_status}
 abbrev pub tables_alone : LiveSetup → Bool → Options
 tables_alone asked leave_memory = record {
   settings = record { permille = asked.permille; min = asked.min };
+  datanodes = asked.datanodes;
   history = false;
   summary = false;
   unsafe_blocks = false;

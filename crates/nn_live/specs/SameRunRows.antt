@@ -63,7 +63,7 @@ shown =
 
 -- with two live replicas for a safe block, and all blocks to be safe
 abbrev strict : LiveSetup
-strict = record { permille = 1000; min = 2; history = true; version = codes "1.2.3" }
+strict = record { permille = 1000; min = 2; datanodes = 256; history = true; version = codes "1.2.3" }
 
 run_of_a_closed_file : ran (asks false) closed_file ≡ listed (codes "txid 8" ∷ (shown ++ codes "blocks 1 safe 1 needed 0 mode off" ∷ []))
 unfolding output_of read_segment fault_of_segment txids_of segment_file_name name_digits reads_of edit_of_line end_of_txs scenario_of lines_from segments_from parts_from end_of_log digits escape_byte datanodes either_of_line either_in report_in dn_in kind_in kind_of object_in value_of tx_in op_in op_of txid_in whole_in number_in path_in profile_in edit_in blocks_in items_in block_in is_utf8 chars encode value punctuate lex content word after_number number_of scan_numeral

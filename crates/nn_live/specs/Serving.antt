@@ -1,7 +1,6 @@
 -- A service of the code, and the service of the definition that it stands for.
 use Rattle.std.specs.Prelude.{◌≡◌, ◌≤◌, ◌<◌, ◌⊎◌, ℕ, ◌+◌, ◌^◌, true, false, if◌then◌else◌, nat_le, ◌==◌, ◌&&◌, ◌||◌, not, nat_lt, Bool, List, [], ◌∷◌, ◌++◌, max, length, codes, decimal}
 use Rattle.std.specs.List.{All, list_any}
-use Rattle.nn_types.specs.Limits.{max_datanodes}
 use Rattle.nn_types.specs.declared.report.Message.{Message}
 use Rattle.nn_types.specs.declared.report.Report.{Report}
 use Rattle.nn_types.specs.declared.tx.Tx.{Tx}
@@ -48,7 +47,7 @@ pub record Service : Type 0 where
 
 -- what the command line asked for
 abbrev pub asked_of : Service → LiveSetup
-asked_of x = record { permille = x.shadow.permille; min = x.shadow.table.min; history = x.history; version = x.version }
+asked_of x = record { permille = x.shadow.permille; min = x.shadow.table.min; datanodes = length x.shadow.numbers; history = x.history; version = x.version }
 
 -- whether a DataNode's full report is there: it has sent one, and that was not ended
 abbrev pub full_in : List FullReport → ℕ → Bool
@@ -81,9 +80,9 @@ pub record IsPlaceOf (dn : ℕ) (reports : List FullReport) (place : ℕ) : Type
   pub small : All (λ (x : FullReport). x.dn < dn) below
   pub from : Ascends dn behind
 
--- its line, where it is there
-abbrev pub reported_line : FullReport → List ℕ
-reported_line x = if x.there && nat_le x.dn max_datanodes then line (codes "full") (decimal x.dn) else []
+-- its line, where it is there and one of so many DataNodes
+abbrev pub reported_line : ℕ → FullReport → List ℕ
+reported_line count x = if x.there && nat_le x.dn count then line (codes "full") (decimal x.dn) else []
 
 -- what it answers first
 abbrev pub figures_seen : Service → Figures
@@ -105,8 +104,8 @@ figures_seen x = record {
 -- the replicas and orders that are looked up in its table, and its counts
 abbrev pub tables_seen : Namespace → Lanes → Service → List ℕ
 tables_seen n lanes x =
-    replica_lines_by n lanes (replica_at x.shadow.table) ++ order_lines_by lanes (has_order x.shadow.table)
-    ++ blocks_line (safe_mode_of x.shadow.permille x.shadow.table.min x.shadow.namespace (replica_at x.shadow.table))
+    replica_lines_by (length x.shadow.numbers) n lanes (replica_at x.shadow.table) ++ order_lines_by (length x.shadow.numbers) lanes (has_order x.shadow.table)
+    ++ blocks_line (safe_mode_of (length x.shadow.numbers) x.shadow.permille x.shadow.table.min x.shadow.namespace (replica_at x.shadow.table))
 
 -- ---- It stands for the definition's.
 

@@ -81,5 +81,5 @@ IsFollowedOrTold txs s t =
 -- so it is for every segment, whatever the service has in hand and wherever it stands
 abbrev pub NoSegmentInSilence : Type 0
 NoSegmentInSilence =
-    (asked : LiveSetup) (s : ServiceState) (lines : List EditLine) → AreSegmentLines lines → list_all is_unbroken (texts_of lines) ≡ true
+    (asked : LiveSetup) (s : ServiceState) (lines : List EditLine) → AreSegmentLines asked.datanodes lines → list_all is_unbroken (texts_of lines) ≡ true
     → IsFollowedOrTold (edits lines) s (takes_all asked (texts_of lines) s)

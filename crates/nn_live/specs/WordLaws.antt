@@ -74,16 +74,16 @@ abbrev pub MistypedChangesNothing : Type 0
 MistypedChangesNothing =
     (asked : LiveSetup) (s : ServiceState) (text : List ℕ) → IsMistyped text → takes asked text s ≡ only_told (unknown_text ++ line (codes "done") (decimal (s.lines + 1))) s
 
--- a line that is neither blank, nor begins as a word, nor is data
-pub record IsNothing (text : List ℕ) (fault : LineFault) : Type 0 where
+-- a line that is neither blank, nor begins as a word, nor is data, where so many DataNodes report
+pub record IsNothing (datanodes : ℕ) (text : List ℕ) (fault : LineFault) : Type 0 where
   pub not_blank : is_blank text ≡ false
   pub no_word : word_in text ≡ None
-  pub read : either_of_line text ≡ Err fault
+  pub read : either_of_line datanodes text ≡ Err fault
 
 -- is told
 abbrev pub NothingChangesNothing : Type 0
 NothingChangesNothing =
-    (asked : LiveSetup) (s : ServiceState) (text : List ℕ) (fault : LineFault) → IsNothing text fault → takes asked text s ≡ only_told (next_fault (number_of fault) s) s
+    (asked : LiveSetup) (s : ServiceState) (text : List ℕ) (fault : LineFault) → IsNothing asked.datanodes text fault → takes asked text s ≡ only_told (next_fault (number_of fault) s) s
 
 -- So is what begins as words do, whether it is one or not, where its line feed never came.
 abbrev pub TornWordChangesNothing : Type 0

@@ -8,7 +8,6 @@ ghost use Rattle.nn_live.specs.Serving.{IsPlaceOf, IsSameFull, full_in, has_repo
 
 use nn_device::{Page, Writer};
 use nn_listing::put_count;
-use nn_types::limits::MAX_DATANODES;
 use nn_types::{Kind, Report};
 use std::alloc::{AllocError, Global};
 use std::io::Write;
@@ -86,13 +85,13 @@ impl FullReports {
         self.reports[place] = FullReport { dn, there };
     }
 
-    /// Puts `full D` for each that is there, by DataNode.
-    pub(crate) fn put<W: Write>(&self, page: &mut Page, writer: &mut Writer<W>)
-        ensures { PutsPiece (flat_map (full_line (full_in self.now)) datanodes) page.old writer.old page.new writer.new }
+    /// Puts `full D` for each of so many DataNodes whose full report is there.
+    pub(crate) fn put<W: Write>(&self, count: u16, page: &mut Page, writer: &mut Writer<W>)
+        ensures { PutsPiece (flat_map (full_line (full_in self.now)) (datanodes count)) page.old writer.old page.new writer.new }
     {
         let mut rest = self.reports.as_slice();
         'reports: while let Some((first, later)) = rest.split_first() {
-            put_line(page, writer, *first);
+            put_line(page, writer, count, *first);
             rest = later;
         }
     }
@@ -131,11 +130,11 @@ fn stays(own: bool, fills: bool, there: bool) -> bool
     own && (fills || there)
 }
 
-// Puts its line, where its full report is there.
-fn put_line<W: Write>(page: &mut Page, writer: &mut Writer<W>, report: FullReport)
-    ensures { PutsPiece (reported_line report) page.old writer.old page.new writer.new }
+// Puts its line, where its full report is there and it is one of so many DataNodes.
+fn put_line<W: Write>(page: &mut Page, writer: &mut Writer<W>, count: u16, report: FullReport)
+    ensures { PutsPiece (reported_line count report) page.old writer.old page.new writer.new }
 {
-    if report.there && report.dn <= MAX_DATANODES {
+    if report.there && report.dn <= count {
         put_count(page, writer, "full", u64::from(report.dn));
     }
 }

@@ -1,5 +1,5 @@
 //! What a service answers of one block.
-ghost use Rattle.std.specs.Prelude.{◌≡◌, ◌≤◌, ◌==◌, filter, flat_map};
+ghost use Rattle.std.specs.Prelude.{◌≡◌, ◌≤◌, ◌==◌, ℕ, filter, flat_map, length};
 ghost use Rattle.nn_device.specs.Page.{PutsPiece};
 ghost use Rattle.nn_model.specs.Status.{block_at};
 ghost use Rattle.nn_listing.specs.Tables.{datanodes, order_line, replica_text};
@@ -81,8 +81,8 @@ pub(crate) fn put_replicas_of<W: Write>(
     table: &Replicas,
     id: BlockId,
 )
-    requires { Shows namespace.now table.now }
-    ensures { PutsPiece (flat_map (λ dn. replica_text id (block_at namespace.now id) dn (replica_at table.now dn id)) datanodes) page.old writer.old page.new writer.new }
+    ensures { (count : ℕ) → Shows count namespace.now table.now
+        → PutsPiece (flat_map (λ dn. replica_text id (block_at namespace.now id) dn (replica_at table.now dn id)) (datanodes count)) page.old writer.old page.new writer.new }
 {
     if let Some(row) = namespace.block(id) {
         put_block_replicas(page, writer, id, &row.block, table.replicas_of(id));
@@ -134,8 +134,8 @@ pub(crate) fn put_about<W: Write>(
     shadow: &Shadow,
     id: BlockId,
 )
-    requires { Shows shadow.now.namespace shadow.now.table }
-    ensures { PutsPiece (about_block (standby_of shadow.now) id) page.old writer.old page.new writer.new }
+    requires { Shows (length shadow.now.numbers) shadow.now.namespace shadow.now.table }
+    ensures { PutsPiece (about_block (length shadow.now.numbers) (standby_of shadow.now) id) page.old writer.old page.new writer.new }
 {
     let table = shadow.replicas();
     put_replicas_of(page, writer, shadow.namespace(), table, id);

@@ -23,6 +23,8 @@ use std::io::{Read, Write};
 pub struct LiveOptions {
     /// When safe mode ends.
     pub settings: Settings,
+    /// How many DataNodes may report: numbered from 1, and a report of one above is refused.
+    pub datanodes: u16,
     /// Whether events are told as they happen.
     pub history: bool,
     /// Whether the input begins with an image, from which the service goes on.
@@ -131,6 +133,7 @@ fn begin<R: Read>(
         namespace,
         txid,
         options.settings,
+        options.datanodes,
         options.history,
         options.version,
     ) else {

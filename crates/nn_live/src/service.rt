@@ -17,7 +17,6 @@ use nn_device::{Page, Writer};
 use nn_listing::put_history;
 use nn_shadow::{FromFault, Shadow};
 use nn_tree::Namespace;
-use nn_types::limits::MAX_DATANODES;
 use nn_types::{Settings, Txid};
 use std::alloc::Global;
 use std::io::Write;
@@ -56,34 +55,35 @@ pub struct Service {
 }
 
 impl Model for Service {
-    ghost use Rattle.std.specs.Prelude.{◌≡◌, length};
+    ghost use Rattle.std.specs.Prelude.{◌≡◌};
     ghost use Rattle.nn_scenario.specs.Cut.{Part};
     ghost use Rattle.nn_live.specs.Serving.{Service, HasPart};
-    ghost use Rattle.nn_types.specs.Limits.{max_datanodes};
 
     ghost Value = { Service };
 
     ghost view = { λ s. record { shadow = s.shadow; in_hand = s.in_hand; history = s.history; version = s.version.now; known = s.known; epoch = s.epoch; promoted = s.promoted; full = s.full; passed = s.passed; segments = s.segments; lines = s.lines } };
 
-    ghost invariant = { λ s. (length s.shadow.numbers ≡ max_datanodes) × ((part : Part) × HasPart part s.in_hand) × (s.min ≡ s.shadow.table.min) };
+    ghost invariant = { λ s. ((part : Part) × HasPart part s.in_hand) × (s.min ≡ s.shadow.table.min) };
 }
 
 impl Service {
-    /// A service that begins at a namespace, of which this was the last transaction (0 where none was). No DataNode has sent
-    /// anything. With `history` it tells what it does as it happens. The version is the program's. Where memory is refused the
+    /// A service that begins at a namespace, of which this was the last transaction (0 where none was). So many DataNodes may report,
+    /// and none has sent anything. With `history` it tells what it does as it happens. The version is the program's. Where memory is refused the
     /// namespace comes back.
     pub fn begin(
         alloc: Global,
         namespace: Namespace,
         txid: Txid,
         settings: Settings,
+        datanodes: u16,
         history: bool,
         version: &'static str,
     ) -> Result<Service, FromFault>
-        ensures ok { IfOk result (λ service. IsAtService (record { permille = settings.permille; min = settings.min; history = history; version = version.now }) service (new_service namespace txid)) }
+        requires { 1 ≤ datanodes }
+        ensures ok { IfOk result (λ service. IsAtService (record { permille = settings.permille; min = settings.min; datanodes = datanodes; history = history; version = version.now }) service (new_service namespace txid)) }
         ensures back { IfErr result (λ fault. fault.namespace ≡ namespace) }
     {
-        let shadow = Shadow::from(alloc, namespace, txid, MAX_DATANODES, settings)?;
+        let shadow = Shadow::from(alloc, namespace, txid, datanodes, settings)?;
         Ok(Service {
             shadow,
             in_hand: SegmentInHand::none(alloc),

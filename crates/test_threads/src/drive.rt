@@ -13,6 +13,7 @@ use nn_lane::{LaneEnd, Reporter};
 use nn_lane_standby::Standby;
 use nn_segment::Parsed;
 use nn_types::Settings;
+use nn_types::limits::{MAX_CAPACITY, MAX_DATANODES};
 use std::alloc::Global;
 use std::process::Abort;
 use std::sync::atomic::Ordering;
@@ -385,7 +386,10 @@ pub fn laned<S: ReportSource + Drop>(
 ) -> Option<(Vec<(S, Reporter)>, Standby)>
     ensures { IfSome result (λ r. HaveReporters r.0.items r.1.ends) }
 {
-    if sources.len() > 256 || capacity == 0 || capacity > 1024 {
+    if sources.len() > usize::from(MAX_DATANODES)
+        || capacity == 0
+        || capacity > usize::from(MAX_CAPACITY)
+    {
         return None;
     }
     let log = log_of(alloc, before)?;
@@ -402,7 +406,7 @@ fn standby_over(alloc: Global, ends: Vec<LaneEnd>, image: Option<&[u8]>) -> Opti
     requires { AreNew 1 ends.items }
     ensures { IfSome result (λ s. s.ends ≡ ends.items) }
 {
-    if ends.is_empty() || ends.len() > 256 {
+    if ends.is_empty() || ends.len() > usize::from(MAX_DATANODES) {
         return None;
     }
     let settings = Settings::new(999, 1).unwrap();

@@ -1,10 +1,13 @@
 //! The program on readers and writers that fail, without arguments, on large inputs, and with threads that wait for one another.
+ghost use Rattle.std.specs.Prelude.{◌≤◌};
+
 use crate::values::{Shared, push_edit};
 use nn_command::{ArgumentsFault, serve};
 use nn_device::{Reader, Writer};
 use nn_run::{Gate, Open, Options, RunFault, ThreadOptions, run, run_threads};
 use nn_scenario::MAX_INPUT;
 use nn_types::Settings;
+use nn_types::limits::DEFAULT_DATANODES;
 use std::alloc::Global;
 use std::io;
 use std::io::{Read, Write};
@@ -14,10 +17,13 @@ use std::sync::{Arc, Wait};
 use std::thread::Threads;
 
 // What the program asks for where the command line has no arguments.
-fn usual_options() -> Options {
+fn usual_options() -> Options
+    ensures { 1 ≤ result.datanodes }
+{
     match Settings::new(999, 1) {
         Some(settings) => Options {
             settings,
+            datanodes: DEFAULT_DATANODES,
             history: false,
             summary: false,
             unsafe_blocks: false,
@@ -46,7 +52,9 @@ fn printed_by_threads<R: Threads + Wait + Sync>(
     alloc: Global,
     options: &Options,
     reader: impl Read + Drop,
-) -> (Vec<u8>, u8) {
+) -> (Vec<u8>, u8)
+    requires { 1 ≤ options.now.datanodes }
+{
     let mut writer = Writer::new(Vec::new(alloc));
     let mut input = Reader::new(reader);
     let status = run_by_threads(rt, alloc, options, &mut input, &mut writer).unwrap_or(9);
@@ -60,7 +68,9 @@ fn run_by_threads<R: Threads + Wait + Sync>(
     options: &Options,
     input: &mut Reader<impl Read>,
     output: &mut Writer<impl Write>,
-) -> Option<u8> {
+) -> Option<u8>
+    requires { 1 ≤ options.now.datanodes }
+{
     let Ok(gate) = Arc::new(alloc, Open) else {
         return None;
     };

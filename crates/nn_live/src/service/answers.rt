@@ -1,5 +1,5 @@
 //! What a service answers.
-ghost use Rattle.std.specs.Prelude.{◌≡◌, ◌≤◌, ◌^◌, ◌++◌, [], List, ℕ, flat_map, map, take, IfErr, IfOk, IsErrOf, OnOk, if◌then◌else◌, nat_le};
+ghost use Rattle.std.specs.Prelude.{◌≡◌, ◌≤◌, ◌^◌, ◌++◌, [], List, ℕ, flat_map, length, map, take, IfErr, IfOk, IsErrOf, OnOk, if◌then◌else◌, nat_le};
 ghost use Rattle.nn_device.specs.Page.{PutsPiece};
 ghost use Rattle.nn_image.specs.Text.{image_text};
 ghost use Rattle.nn_listing.specs.Listing.{listing_text};
@@ -12,7 +12,6 @@ ghost use Rattle.nn_live.specs.Answers.{held_line, first_lines, status_lines};
 ghost use Rattle.nn_live.specs.Live.{answers, does};
 ghost use Rattle.nn_live.specs.Serving.{BreaksOff, IsAtEnd, ServiceSteps, TellsPrefix, figures_seen, tables_seen};
 ghost use Rattle.nn_live.specs.declared.word.Word.TheVariants as word;
-ghost use Rattle.nn_types.specs.Limits.{max_datanodes};
 
 use super::{Service, ServiceFault};
 use crate::one_block::{put_about, put_head_of, put_holder};
@@ -24,7 +23,6 @@ use nn_listing::{ReadyListing, ReadyTables, put_count, put_row, put_summary, put
 use nn_postponed::Held;
 use nn_replicas::SafeMode;
 use nn_tree::Rows;
-use nn_types::limits::MAX_DATANODES;
 use nn_types::{BlockId, Path};
 use std::alloc::{AllocError, Global};
 use std::io::Write;
@@ -66,7 +64,10 @@ impl Service {
             Word::Path(path) => return self.path(page, writer, path),
             Word::Tables => return self.tables(page, writer),
             Word::Checkpoint => return self.checkpoint(page, writer),
-            Word::Gone(dn) => return self.gone(page, writer, lane_of(*dn)),
+            Word::Gone(dn) => {
+                let dn = lane_of(self.shadow.lanes(), *dn);
+                return self.gone(page, writer, dn);
+            }
             Word::Seen(txid) => self.see(*txid),
             Word::Epoch(epoch) => self.name_epoch(*epoch),
             Word::Promote {
@@ -124,7 +125,7 @@ impl Service {
     }
 
     fn table_lines(&self) -> Result<ReadyTables<'_>, AllocError>
-        ensures { (n : Namespace) (lanes : Lanes) → IsOfSaid n lanes self.now.shadow.table
+        ensures { (n : Namespace) (lanes : Lanes) → IsOfSaid (length self.now.shadow.numbers) n lanes self.now.shadow.table
             → IfOk result (λ tables. tables ≡ tables_seen n lanes self.now) }
     {
         ReadyTables::of(self.alloc, self.shadow.replicas(), self.shadow.safe_mode())
@@ -238,7 +239,7 @@ impl Service {
             self.in_hand.last_txid().get(),
         );
         put_counts_of(page, writer, "epoch", self.epoch, self.promoted);
-        self.full.put(page, writer);
+        self.full.put(self.shadow.lanes(), page, writer);
         put_summary(page, writer, &self.shadow);
     }
 
@@ -279,11 +280,11 @@ impl Service {
     }
 }
 
-// A DataNode that there can be, or 0, which is none.
-fn lane_of(dn: u64) -> u16
-    ensures { result ≡ (if nat_le dn max_datanodes then dn else 0) }
+// A DataNode that is none above so many, or 0, which is none.
+fn lane_of(count: u16, dn: u64) -> u16
+    ensures { result ≡ (if nat_le dn count then dn else 0) }
 {
-    if dn <= u64::from(MAX_DATANODES) {
+    if dn <= u64::from(count) {
         dn as u16
     } else {
         0

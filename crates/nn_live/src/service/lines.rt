@@ -166,11 +166,11 @@ impl Service {
     ) -> Result<(), ServiceFault>
         requires whole { is_unbroken text.now ≡ true }
         requires printable { IsPrintableTo printable text.now }
-        ensures ok { OnOk result (ServiceSteps (λ asked s. takes_read asked text.now (either_of_line text.now) s) self.old self.new (λ told. PutsPiece told page.old writer.old page.new writer.new)) }
+        ensures ok { OnOk result (ServiceSteps (λ asked s. takes_read asked text.now (either_of_line asked.datanodes text.now) s) self.old self.new (λ told. PutsPiece told page.old writer.old page.new writer.new)) }
         ensures exhausted { IsErrOf result ServiceFault.Exhausted → IsAtEnd self.old }
-        ensures prefix { IfErr result (λ _. BreaksOff (λ asked s. takes_read asked text.now (either_of_line text.now) s) self.old (λ told. PutsPiece told page.old writer.old page.new writer.new)) }
+        ensures prefix { IfErr result (λ _. BreaksOff (λ asked s. takes_read asked text.now (either_of_line asked.datanodes text.now) s) self.old (λ told. PutsPiece told page.old writer.old page.new writer.new)) }
     {
-        match read_data(self.alloc, scratch, text, printable) {
+        match read_data(self.alloc, scratch, self.shadow.lanes(), text, printable) {
             Ok(Line::Edit(tx)) => self.edit(page, writer, text, tx),
             Ok(Line::Report(report)) => self.report(page, writer, report),
             Err(fault) => {
@@ -184,18 +184,19 @@ impl Service {
     }
 }
 
-// Reads a line of data. The edits of a segment in hand keep their paths, so no text is kept from line to line.
+// Reads a line of data, where so many DataNodes report. The edits of a segment in hand keep their paths, so no text is kept from line to line.
 fn read_data(
     alloc: Global,
     scratch: &mut Scratch,
+    datanodes: u16,
     text: &[u8],
     printable: usize,
 ) -> Result<Line, LineFault>
     requires { IsPrintableTo printable text.now }
-    ensures found { IfOk result (IsLine text.now) }
-    ensures exact { LineGives result (either_of_line text.now) }
-    ensures lawful { IfOk result IsLawfulLine }
+    ensures found { IfOk result (IsLine datanodes text.now) }
+    ensures exact { LineGives result (either_of_line datanodes text.now) }
+    ensures lawful { IfOk result (IsLawfulLine datanodes) }
 {
     let mut texts = KeptTexts::new(alloc);
-    read_line_into(alloc, scratch, &mut texts, text, printable)
+    read_line_into(alloc, scratch, datanodes, &mut texts, text, printable)
 }

@@ -1,11 +1,10 @@
 //! Reports are handed as they come.
-ghost use Rattle.std.specs.Prelude.{◌≡◌, ◌≤◌, ◌^◌, ◌+◌, ℕ, [], ◌∷◌, IfOk, IfSome, IfErr, IsErrOf, IsTrue, None, is_none, is_some, ◌⊎◌, Bool, true, false};
+ghost use Rattle.std.specs.Prelude.{◌≡◌, ◌≤◌, ◌^◌, ◌+◌, ℕ, [], ◌∷◌, IfOk, IfSome, IfErr, IsErrOf, IsTrue, None, is_none, is_some, length, ◌⊎◌, Bool, true, false};
 ghost use Rattle.nn_device.specs.Page.{PutsPiece};
 ghost use Rattle.nn_shadow.specs.Contents.{last_number_in, node_state_in, standby_of};
 ghost use Rattle.nn_shadow.specs.Refusals.{hand_refusal};
 ghost use Rattle.nn_live.specs.Live.{empty_report, full_behind, hands, mark_of};
 ghost use Rattle.nn_live.specs.Serving.{ServiceSteps, next_of};
-ghost use Rattle.nn_types.specs.Limits.{max_datanodes};
 
 use super::{Service, ServiceFault};
 use crate::texts::put_fault;
@@ -60,7 +59,7 @@ impl Service {
         own: bool,
     ) -> Result<bool, ServiceFault>
         ensures ok { IfOk result (λ _. ServiceSteps (λ asked s. hands asked own (report ∷ []) s) self.old self.new (λ text. PutsPiece text page.old writer.old page.new writer.new)) }
-        ensures taken { IfOk result (λ taken. taken ≡ is_none (hand_refusal max_datanodes self.old.shadow.phase (standby_of self.old.shadow) (next_of self.old.shadow report))) }
+        ensures taken { IfOk result (λ taken. taken ≡ is_none (hand_refusal (length self.old.shadow.numbers) self.old.shadow.phase (standby_of self.old.shadow) (next_of self.old.shadow report))) }
         ensures numbers { IfOk result (λ taken. IsTrue taken → (dn : ℕ) → last_number_in self.new.shadow.numbers dn ≤ last_number_in self.old.shadow.numbers dn + 1) }
         ensures exhausted { IsErrOf result ServiceFault.Exhausted → 2 ^ 63 ≤ last_number_in self.old.shadow.numbers report.dn + 1 }
         ensures left { IfErr result (λ _. ServiceSteps (λ _ s. s) self.old self.new (λ text. PutsPiece text page.old writer.old page.new writer.new)) }

@@ -69,7 +69,7 @@ fn use_end(lane: &mut Lane, call: &mut Call<'_>) {
 // A new lane of a DataNode with a capacity.
 fn open(call: &mut Call<'_>) -> Option<Ends> {
     let (dn, capacity) = (call.datanode(1), call.datanode(2));
-    if dn < 1 || dn > 256 || capacity < 1 || capacity > 1024 {
+    if dn < 1 || capacity < 1 || capacity > 1024 {
         call.failed = true;
         return None;
     }

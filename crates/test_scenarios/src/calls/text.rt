@@ -3,6 +3,7 @@ use crate::calls::call::Call;
 use nn_edits::{Scratch, read_edit, read_report, write_edit};
 use nn_segment::{Parsed, parse_name};
 use nn_types::Tx;
+use nn_types::limits::DEFAULT_DATANODES;
 
 /// Calls on a text. Whether this was one.
 pub fn play(text: &mut Vec<u8>, call: &mut Call<'_>) -> bool {
@@ -84,7 +85,8 @@ fn show_written(tx: &Tx, call: &mut Call<'_>) {
 
 fn show_report(call: &mut Call<'_>) {
     let line = call.word(1).as_bytes();
-    match read_report(call.alloc, &mut Scratch::new(call.alloc), line) {
+    let mut scratch = Scratch::new(call.alloc);
+    match read_report(call.alloc, &mut scratch, DEFAULT_DATANODES, line) {
         Ok(report) => {
             call.show(&report.dn);
             call.show(&report.block.get());

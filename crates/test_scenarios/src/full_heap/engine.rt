@@ -6,6 +6,7 @@ use crate::full_heap::trial::{Answer, Changing, Fate, change};
 use nn_device::{Reader, Writer};
 use nn_run::{Options, run};
 use nn_types::Settings;
+use nn_types::limits::DEFAULT_DATANODES;
 use std::alloc::Global;
 use std::mem;
 
@@ -91,6 +92,7 @@ pub fn run_scenario(
         lines: LINES,
         options: Options {
             settings,
+            datanodes: DEFAULT_DATANODES,
             history: true,
             summary: true,
             unsafe_blocks: true,

@@ -7,6 +7,7 @@ use crate::full_heap::trial::{Answer, Changing, Fate, both, change, repeat};
 use nn_device::{Reader, Writer};
 use nn_live::{LiveOptions, run_live};
 use nn_types::Settings;
+use nn_types::limits::DEFAULT_DATANODES;
 use std::alloc::Global;
 use std::mem;
 
@@ -67,6 +68,7 @@ pub fn serve_lines(
         alloc,
         options: LiveOptions {
             settings,
+            datanodes: DEFAULT_DATANODES,
             history: true,
             from_image: false,
             version: "0",

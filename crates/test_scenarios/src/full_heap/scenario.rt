@@ -5,6 +5,7 @@ use nn_scenario::{
 };
 use nn_segment::{Parsed, SegmentFault};
 use nn_tree::Namespace;
+use nn_types::limits::DEFAULT_DATANODES;
 use nn_types::{BlockId, Tx, Txid};
 use std::alloc::{AllocError, Global};
 use std::io;
@@ -47,7 +48,7 @@ impl Scenario {
         if text.len() > MAX_INPUT {
             return Err(EndFault::BadScenario);
         }
-        let lines = match read_lines(alloc, text) {
+        let lines = match read_lines(alloc, DEFAULT_DATANODES, text) {
             Ok(lines) => lines,
             Err(bad) => return Err(halt_of_line(&bad)),
         };

@@ -1,5 +1,6 @@
 //! `Standby::new`, `from_image`, `step` and `promote`.
 ghost use Rattle.std.specs.Prelude.{◌≡◌, ◌≤◌, [], IfOk, length};
+ghost use Rattle.nn_types.specs.Limits.{max_datanodes};
 
 use crate::full_heap::heap::Heap;
 use crate::full_heap::image::image_of;
@@ -43,12 +44,13 @@ impl Model for NewEnds {
     ghost use Rattle.std.specs.Prelude.{List, ◌≤◌, length};
     ghost use Rattle.nn_lane.specs.Ends.{LaneEnd};
     ghost use Rattle.nn_lane_standby.specs.Public.{AreNew};
+    ghost use Rattle.nn_types.specs.Limits.{max_datanodes};
 
     ghost Value = { List LaneEnd };
 
     ghost view = { λ s. s.ends.items };
 
-    ghost invariant = { λ s. AreNew 1 s.ends.items × (1 ≤ length s.ends.items) × (length s.ends.items ≤ 256) };
+    ghost invariant = { λ s. AreNew 1 s.ends.items × (1 ≤ length s.ends.items) × (length s.ends.items ≤ max_datanodes) };
 }
 
 // Lanes that hold all messages of their DataNodes.
@@ -64,7 +66,7 @@ fn lanes(alloc: Global, scenario: &Scenario) -> Result<NewEnds, EndFault> {
 
 // The end of a new lane that holds all messages of its DataNode.
 fn filled_lane(alloc: Global, dn: u16, scenario: &Scenario) -> Result<LaneEnd, EndFault>
-    requires { (1 ≤ dn) × (dn ≤ 256) }
+    requires { (1 ≤ dn) × (dn ≤ max_datanodes) }
     ensures { IfOk result (λ end. (end.lane.node ≡ dn) × (end.got ≡ [])) }
 {
     let (mut reporter, end) = lane(alloc, dn, CAPACITY)?;

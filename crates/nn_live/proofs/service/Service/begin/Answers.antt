@@ -12,7 +12,7 @@ returns-clause-ok c =
     let e = c.in_ok-shadow.ensures in
     let n = c.args.namespace in
     record {
-      asks = λ i. record { permille = sym e.settings.2 i; min = sym e.settings.1 i; history = c.args.history; version = c.args.version.now };
+      asks = λ i. record { permille = sym e.settings.2 i; min = sym e.settings.1 i; datanodes = sym e.settings.0 i; history = c.args.history; version = c.args.version.now };
       standby = e.fresh;
       phase = e.phase;
       sent = λ dn. ap (λ (x : StandbyState). x.last_number dn) e.fresh;

@@ -1,11 +1,11 @@
-use Rattle.std.proofs.Common.{false, [], inl, inr, refl, sym, subst, ap, ◌∙◌}
+use Rattle.std.proofs.Common.{◌≡◌, ℕ, length, leb, cond, false, [], inl, inr, refl, sym, subst, ap, ◌∙◌}
 use Rattle.std.specs.Prelude.{OnOk}
 use Rattle.std.proofs.lemmas.Result.{IfOk-weaker, IfErr-weaker}
 use Rattle.nn_device.specs.Page.{PutsPiece}
 use Rattle.nn_device.proofs.Pages.{puts_nothing}
 use Rattle.nn_live.specs.Help.{help_text, unknown_text}
 use Rattle.nn_live.specs.Live.{LiveSetup, ServiceState, does, empty_report, hands}
-use Rattle.nn_live.specs.Serving.{FollowsStep, ServiceSteps, TellsPrefix}
+use Rattle.nn_live.specs.Serving.{FollowsStep, IsAtService, Service, ServiceSteps, TellsPrefix}
 use Rattle.nn_live.specs.declared.word.Word.{Word}
 use Rattle.nn_live.specs.declared.word.Word.TheVariants as word
 use Rattle.nn_live.proofs.Breaking.{begin_handed, none_done_of, none_told_of, same_told_of}
@@ -17,6 +17,13 @@ use Rattle.nn_live.proofs.service.Service.does.Goals as goal
 -- what a word does
 abbrev doing : Word → LiveSetup → ServiceState → ServiceState
 doing w asked s = does asked w s
+
+-- a DataNode above the number stands for none
+gone_as : (x v : Service) (lanes dn other : ℕ) → lanes ≡ length v.shadow.numbers → v ≡ x → other ≡ cond (leb dn lanes) dn 0
+    → (asked : LiveSetup) (s : ServiceState) → IsAtService asked x s → does asked (word.Gone dn) s ≡ hands asked false (empty_report other) s
+gone_as x v lanes dn other e here is asked s i =
+    let same : asked.datanodes ≡ lanes = ap (λ (a : LiveSetup). a.datanodes) i.asks ∙ sym (ap (λ (u : Service). length u.shadow.numbers) here) ∙ sym e in
+    same_gone asked s dn ∙ ap (λ n. hands asked false (empty_report (cond (leb dn n) dn 0)) s) same ∙ ap (λ d. hands asked false (empty_report d) s) (sym is)
 
 pub returns-in-Block-clause-ok : goal.returns-in-Block-clause-ok
 returns-in-Block-clause-ok g c =
@@ -73,8 +80,8 @@ returns-in-Gone-clause-ok g c = IfOk-weaker c.gone.result _ _ (λ _ step. (
   step.0,
   step.1,
   subst (λ (w : Word). FollowsStep (λ asked s. does asked w s) c.args.self.now c.gone.new.self step.0) (sym c.in-Gone.is)
-      (same_makes (λ asked s. does asked (word.Gone c.in-Gone.dn) s) (λ asked s. hands asked false (empty_report c.lane_of.result) s) c.args.self.now c.gone.new.self step.0
-      (λ asked s i. (same_gone asked s c.in-Gone.dn ∙ ap (λ dn. hands asked false (empty_report dn) s) (sym c.lane_of.ensures))) step.2),
+      (same_makes (λ asked s. does asked (word.Gone c.in-Gone.dn) s) (λ asked s. hands asked false (empty_report c.lane_of-dn.result) s) c.args.self.now c.gone.new.self step.0
+      (gone_as c.args.self.now _ c.lanes.result c.in-Gone.dn c.lane_of-dn.result c.lanes.ensures.lanes c.self.view_is c.lane_of-dn.ensures) step.2),
 )) c.gone.ensures.ok
 
 pub returns-in-Unsafe-clause-prefix : goal.returns-in-Unsafe-clause-prefix
@@ -102,7 +109,7 @@ returns-in-Gone-clause-prefix g c = IfErr-weaker c.gone.result _ _ (λ _ cut. el
     begun.0,
     begun.1,
     subst (λ (w : Word). TellsPrefix (doing w) c.args.self.now begun.0) (sym c.in-Gone.is)
-        (same_told_of (doing (word.Gone c.in-Gone.dn)) (λ asked s. hands asked false (empty_report c.lane_of.result) s) c.args.self.now begun.0
-        (λ asked s i. (same_gone asked s c.in-Gone.dn ∙ ap (λ dn. hands asked false (empty_report dn) s) (sym c.lane_of.ensures))) (begin_handed c.args.self.now c.gone.new.self c.lane_of.result begun.0 begun.2)),
+        (same_told_of (doing (word.Gone c.in-Gone.dn)) (λ asked s. hands asked false (empty_report c.lane_of-dn.result) s) c.args.self.now begun.0
+        (gone_as c.args.self.now _ c.lanes.result c.in-Gone.dn c.lane_of-dn.result c.lanes.ensures.lanes c.self.view_is c.lane_of-dn.ensures) (begin_handed c.args.self.now c.gone.new.self c.lane_of-dn.result begun.0 begun.2)),
   )
 ]) c.gone.ensures.cut

@@ -1,5 +1,5 @@
 use Rattle.std.specs.Prelude.{is_none}
-use Rattle.std.proofs.Common.{◌+◌, ◌≤◌, ◌≡◌, ◌==◌, ℕ, Bool, List, cond, [], ◌∷◌, codes, None, Some, inl, inr, refl, sym, subst, ap, ap₂, ◌∙◌}
+use Rattle.std.proofs.Common.{◌+◌, ◌≤◌, ◌≡◌, ◌==◌, ℕ, Bool, List, cond, [], ◌∷◌, codes, None, Some, inl, inr, length, refl, sym, subst, ap, ap₂, ◌∙◌}
 use Rattle.nn_device.proofs.Pages.{puts_nothing}
 use Rattle.nn_shadow.specs.Contents.{Shadow, standby_of, last_number_in}
 use Rattle.nn_shadow.specs.Calls.{received}
@@ -23,8 +23,8 @@ returns-in-Ok-hand-clause-ok g c =
     let y = c.tell_events.new.self in
     let m : c.in-Some.message ≡ next_of x.shadow r = c.in-Some.ensures.some ∙ ap (λ (v : Service). next_of v.shadow r) (sym here) in
     let is : standby_of z ≡ received (standby_of x.shadow) (next_of x.shadow r) = c.in-Ok-hand.ensures.ok ∙ ap (received (standby_of x.shadow)) m in
-    let fits : hand_refusal 256 x.shadow.phase (standby_of x.shadow) (next_of x.shadow r) ≡ None =
-    ap₂ (λ k n. hand_refusal k x.shadow.phase (standby_of x.shadow) n) (sym c.self.invariant.0) (sym m) ∙ c.in-Ok-hand.ensures.fits in
+    let fits : hand_refusal (length x.shadow.numbers) x.shadow.phase (standby_of x.shadow) (next_of x.shadow r) ≡ None =
+    ap (λ n. hand_refusal (length x.shadow.numbers) x.shadow.phase (standby_of x.shadow) n) (sym m) ∙ c.in-Ok-hand.ensures.fits in
     let fills : IsFullAfter own r x.shadow x.full f = filled own r x c.args.self.now c.reserve.new.self f c.fills-fills.result here c.reserve.ensures.same c.fills-fills.ensures.behind c.note.ensures in
     let made = subst (λ (v : Service). FollowsStep (λ asked s. hands asked own (r ∷ []) s) x v (told x.history z)) (sym c.tell_events.ensures.left) (taken own x z f r is c.hand.ensures.phase c.hand.ensures.settings fills fits) in
     (told x.history z, c.tell_events.ensures.put, subst (λ (v : Service). FollowsStep (λ asked s. hands asked own (r ∷ []) s) v y (told x.history z)) here made)
@@ -39,8 +39,8 @@ returns-in_default-cause g c =
     let y : Service = record x { shadow = c.hand.new.self; full = f } in
     let cause = c.in-Err.fault.cause in
     let m : c.in-Some.message ≡ next_of x.shadow r = c.in-Some.ensures.some ∙ ap (λ (v : Service). next_of v.shadow r) (sym here) in
-    let moved = ap₂ (λ k n. hand_refusal k x.shadow.phase (standby_of x.shadow) n) (sym c.self.invariant.0) (sym m) in
-    let is : hand_refusal 256 x.shadow.phase (standby_of x.shadow) (next_of x.shadow r) ≡ Some cause = moved ∙ elim c.in-Err.ensures.cause [
+    let moved = ap (λ n. hand_refusal (length x.shadow.numbers) x.shadow.phase (standby_of x.shadow) n) (sym m) in
+    let is : hand_refusal (length x.shadow.numbers) x.shadow.phase (standby_of x.shadow) (next_of x.shadow r) ≡ Some cause = moved ∙ elim c.in-Err.ensures.cause [
       | inl answered ↦ answered
       | inr memory ↦ absurd (c.in_default-cause.not-OutOfMemory memory.1)
     ] in
@@ -53,7 +53,7 @@ returns-in_default-cause g c =
     let told_it : FollowsStep (λ asked s. hands asked own (r ∷ []) s) x y text = subst (λ n. FollowsStep (λ asked s. hands asked own (r ∷ []) s) x y (fault_text n (codes " line ") x.lines)) (sym c.number.ensures) roomy in
     record {
       ok = (text, c.put_fault.ensures, subst (λ (v : Service). FollowsStep (λ asked s. hands asked own (r ∷ []) s) v y text) here told_it);
-      taken = sym (ap (λ (v : Service). is_none (hand_refusal 256 v.shadow.phase (standby_of v.shadow) (next_of v.shadow r))) (sym here) ∙ ap is_none is);
+      taken = sym (ap (λ (v : Service). is_none (hand_refusal (length v.shadow.numbers) v.shadow.phase (standby_of v.shadow) (next_of v.shadow r))) (sym here) ∙ ap is_none is);
       numbers = λ never. absurd (cc);
       exhausted = λ never. absurd (cc);
       left = tt;

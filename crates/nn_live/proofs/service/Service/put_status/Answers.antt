@@ -27,15 +27,16 @@ returns g c =
       full = full_in x.full;
       standby = (figures_seen x).standby;
     } in
+    let full = subst (λ n. PutsPiece (flat_map (full_line told.full) (datanodes n)) c.put_counts_of-2.new.page c.put_counts_of-2.new.writer c.put.new.page c.put.new.writer) c.lanes.ensures.lanes c.put.ensures in
     let put : PutsPiece (status_lines told) c.args.page.now c.args.writer.now c.put_summary.new.page c.put_summary.new.writer =
     subst (λ text. PutsPiece text c.args.page.now c.args.writer.now c.put_summary.new.page c.put_summary.new.writer) (status_pieces
     (line (codes "state") (state_answer told.stopped told.active (nat_lt told.promoted told.epoch))) (line (codes "version") told.version)
     (line (codes "known") (decimal told.known)) (line (codes "passed") (decimal told.passed)) (line (codes "segments") (decimal told.segments))
     (line (codes "edits") (and_number (decimal told.edits) told.last_edit)) (line (codes "epoch") (and_number (decimal told.epoch) told.promoted))
-    (flat_map (full_line told.full) datanodes) (summary_text told.standby))
+    (flat_map (full_line told.full) (datanodes told.standby.datanodes)) (summary_text told.standby))
     (puts_both _ _ _ _ _ _ _ _ c.put_state.ensures (puts_both _ _ _ _ _ _ _ _ c.put_text.ensures (puts_both _ _ _ _ _ _ _ _ c.put_count.ensures (puts_both _ _ _ _ _ _ _ _ c.put_count-2.ensures
     (puts_both _ _ _ _ _ _ _ _ c.put_count-3.ensures (puts_both _ _ _ _ _ _ _ _ c.put_counts_of.ensures (puts_both _ _ _ _ _ _ _ _ c.put_counts_of-2.ensures
-    (puts_both _ _ _ _ _ _ _ _ c.put.ensures c.put_summary.ensures.seen)))))))) in
+    (puts_both _ _ _ _ _ _ _ _ full c.put_summary.ensures.seen)))))))) in
     let same : told ≡ figures_seen c.args.self.now = λ i. record {
       stopped = (c.stop.ensures ∙ ap (λ (v : Service). v.shadow.phase.stopped) c.self.view_is) i;
       active = (c.is_active.ensures ∙ ap (λ (v : Service). v.shadow.phase.active) c.self.view_is) i;

@@ -1,4 +1,4 @@
-use Rattle.std.proofs.Common.{◌++◌, sym, subst}
+use Rattle.std.proofs.Common.{◌++◌, length, sym, subst}
 use Rattle.nn_device.proofs.Pages.{puts_both}
 use Rattle.nn_replicas.specs.Agreement.{Shows}
 use Rattle.nn_live.specs.Live.{LiveSetup, ServiceState, does}
@@ -10,7 +10,7 @@ use Rattle.nn_live.proofs.service.Service.tables.Goals as goal
 pub returns-clause-ok : goal.returns-clause-ok
 returns-clause-ok g c =
     let x = c.args.self.now in
-    let shows = subst (λ (v : Service). Shows v.shadow.namespace v.shadow.table) c.self.view_is c.recall_invariant.ensures.shows in
+    let shows = subst (λ (v : Service). Shows (length v.shadow.numbers) v.shadow.namespace v.shadow.table) c.self.view_is c.recall_invariant.ensures.shows in
     let step : LiveSetup → ServiceState → ServiceState = λ asked s. does asked word.Tables s in
     let made = tables_told x shows c.in-Ok-Ok.tables c.in-Ok-Ok.ensures' in
     let told = subst (λ listing. FollowsStep step x x (listing ++ c.in-Ok-Ok.tables)) (sym c.in-Ok-Ok.ensures) made in

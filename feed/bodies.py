@@ -1,13 +1,13 @@
 """Reads what a caller sends as JSON. Values alone; called by the doors.
 
-A report is read and written anew with its five members, so no body brings an edit, a word or a second line.
+A report is read and written anew with its five members, so no body brings an edit, a word or a second line. So many DataNodes
+may report, numbered from 1.
 """
 import json
 from operator import itemgetter
 
 from place import GREATEST_NUMBER
 
-DATANODES = 256
 KINDS = frozenset(("receiving", "received", "deleted", "report_begin", "listed", "report_end"))
 MEMBERS = 5
 # The quotes of a report: those of its five names and of its kind.
@@ -24,40 +24,40 @@ class BadBody(Exception):
     """A body that is not taken. The text is the reason."""
 
 
-def report_in(body: bytes) -> dict:
+def report_in(datanodes: int, body: bytes) -> dict:
     """The reports of a body, one or a list of them, all of one DataNode. All of them are good, or none is taken."""
     found = json_in(body)
     reports = found if type(found) is list else [found]
     if body.count(b'"') != QUOTES * len(reports):
         # A member that comes twice has two quotes more.
         raise BadBody("a body is a report, or a list of reports, with the members dn, block, gen, len and kind")
-    lines = lines_of(reports)
-    datanodes = {report["dn"] for report in reports}
-    if len(datanodes) != 1:
+    lines = lines_of(datanodes, reports)
+    senders = {report["dn"] for report in reports}
+    if len(senders) != 1:
         raise BadBody("the reports of a body are of one DataNode")
-    return {"dn": datanodes.pop(), "data": "".join(lines).encode(), "count": len(lines)}
+    return {"dn": senders.pop(), "data": "".join(lines).encode(), "count": len(lines)}
 
 
-def lines_of(reports):
+def lines_of(datanodes, reports):
     """The lines of reports. Many of them are looked at all at once; where one is not good, one after another."""
     if len(reports) > 1:
         try:
             dns, blocks, gens, lengths, kinds = columns = tuple(zip(*map(VALUES, reports)))
-            if are_good(reports, *columns):
+            if are_good(datanodes, reports, *columns):
                 return [text_of(*values) for values in zip(blocks, dns, gens, kinds, lengths)]
         except (KeyError, TypeError, IndexError, ValueError):
             pass
-    return list(map(line_of, reports))
+    return [line_of(datanodes, report) for report in reports]
 
 
-def are_good(reports, dns, blocks, gens, lengths, kinds):
+def are_good(datanodes, reports, dns, blocks, gens, lengths, kinds):
     """What `line_of` asks of each."""
     return (
         set(map(type, reports)) == {dict}
         and set(map(len, reports)) == {MEMBERS}
         and set(map(type, dns + blocks + gens + lengths)) == {int}
         and set(kinds) <= KINDS
-        and 1 <= min(dns) <= max(dns) <= DATANODES
+        and 1 <= min(dns) <= max(dns) <= datanodes
         and max(map(max, (blocks, gens, lengths))) <= GREATEST_NUMBER
     )
 
@@ -66,24 +66,24 @@ def text_of(block, dn, gen, kind, length):
     return f'{{"block":{block},"dn":{dn},"gen":{gen},"kind":"{kind}","len":{length}}}\n'
 
 
-def line_of(report):
+def line_of(datanodes, report):
     try:
         dn, block, gen, length, kind = report["dn"], report["block"], report["gen"], report["len"], report["kind"]
     except (KeyError, TypeError, IndexError):
         raise BadBody("a report has the members dn, block, gen, len and kind, and no other one") from None
     if not (len(report) == MEMBERS and type(dn) is type(block) is type(gen) is type(length) is int):
         raise BadBody("dn, block, gen and len are whole numbers")
-    if not (1 <= dn <= DATANODES and block <= GREATEST_NUMBER and gen <= GREATEST_NUMBER and length <= GREATEST_NUMBER):
-        raise BadBody(f"dn is 1 to {DATANODES}, and no number is above {GREATEST_NUMBER}")
+    if not (1 <= dn <= datanodes and block <= GREATEST_NUMBER and gen <= GREATEST_NUMBER and length <= GREATEST_NUMBER):
+        raise BadBody(f"dn is 1 to {datanodes}, and no number is above {GREATEST_NUMBER}")
     if type(kind) is not str or kind not in KINDS:
         raise BadBody(f"kind is one of {', '.join(sorted(KINDS))}")
     return text_of(block, dn, gen, kind, length)
 
 
-def heartbeat_in(body: bytes) -> dict:
+def heartbeat_in(datanodes: int, body: bytes) -> dict:
     members = members_in(body, {"dn"}, {})
-    if not is_number(members["dn"], 1, DATANODES):
-        raise BadBody(f"dn is a whole number from 1 to {DATANODES}")
+    if not is_number(members["dn"], 1, datanodes):
+        raise BadBody(f"dn is a whole number from 1 to {datanodes}")
     return members
 
 

@@ -17,6 +17,7 @@ import threading
 import time
 import urllib.parse
 from collections import Counter
+from functools import partial
 from typing import NamedTuple
 
 from bodies import BadBody, epoch_in, heartbeat_in, nothing_in, promotion_in, report_in
@@ -580,12 +581,6 @@ def cookie_of(token):
 ENTER = Route("enter", "entrants", token_in, None, FORM_BYTES)
 HEALTH = Route("health", "scrapes", None)
 FIGURES = Route("figures", "scrapes", None, lambda value: (METRICS, metrics(value), None))
-REPORT_ROUTES = {
-    ("POST", "/report"): Route("report", "reports", report_in),
-    ("POST", "/heartbeat"): Route("heartbeat", "reports", heartbeat_in),
-    ("GET", "/health"): HEALTH,
-    ("GET", "/metrics"): FIGURES,
-}
 OPERATOR_ROUTES = {
     ("POST", "/promote"): Route("promote", "operators", promotion_in),
     ("POST", "/epoch"): Route("epoch", "operators", epoch_in),
@@ -598,11 +593,17 @@ OPERATOR_ROUTES = {
 }
 
 
-def report_door(address, port):
+def report_door(address, port, datanodes):
+    routes = {
+        ("POST", "/report"): Route("report", "reports", partial(report_in, datanodes)),
+        ("POST", "/heartbeat"): Route("heartbeat", "reports", partial(heartbeat_in, datanodes)),
+        ("GET", "/health"): HEALTH,
+        ("GET", "/metrics"): FIGURES,
+    }
     listener = socket.create_server((address, port), backlog=1024, reuse_port=False)
     port = listener.getsockname()[1]
     names = {f"{name}:{port}" for name in (address.lower(), "127.0.0.1", "localhost", socket.gethostname().lower())}
-    return Door(listener, REPORT_ROUTES, {"reports": REPORTS, "scrapes": SCRAPES}, names)
+    return Door(listener, routes, {"reports": REPORTS, "scrapes": SCRAPES}, names)
 
 
 def operator_door(path):

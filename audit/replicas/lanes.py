@@ -1,7 +1,7 @@
 """The reports of all replicas, in a file: in the order of their blocks, each with its lane.
 
-The program has 256 DataNodes, a cluster may have more. What a block's replicas are depends on no other block, so the
-i-th replica of a block is reported by lane i, whichever DataNode has it.
+The program takes 256 DataNodes where it is not told how many, a cluster may have more. What a block's replicas are depends
+on no other block, so the i-th replica of a block is reported by lane i, whichever DataNode has it.
 """
 from hdfs.formats import Refused
 

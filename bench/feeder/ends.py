@@ -563,6 +563,21 @@ def check_arguments(tally, place):
     os.makedirs(place.edits)
     feed = Feed(place, "--min", "0")
     tally.same("an argument that the program refuses", feed.ended(), 1)
+    feed = Feed(place, "--datanodes", "65536")
+    tally.same("more DataNodes than the program takes", feed.ended(), 1)
+
+
+def check_number(tally, place):
+    """So many DataNodes report, and none above them."""
+    place.put_segment(files(1, 0, 1))
+    feed = Feed(place, "--datanodes", "257")
+    feed.reaches(7)
+    tally.same("a report of the last DataNode", feed.report(report(257, 0)), (200, 1, []))
+    tally.contains("it is there", feed.tables(), "replica 1073741825 257 ")
+    tally.same("a heartbeat of the last DataNode", feed.ask("POST", "/heartbeat", '{"dn":257}')[0], 200)
+    for path, body in ("/report", json.dumps(report(258, 0))), ("/heartbeat", '{"dn":258}'):
+        status, answer = feed.ask("POST", path, body)
+        tally.same(f"{path} of one above it", (status, "257" in answer), (400, True))
 
 
 # An idle machine takes a fifth of it.
@@ -584,6 +599,7 @@ PARTS = [
     check_hang,
     check_following,
     check_bodies,
+    check_number,
     check_callers,
     check_bad_segments,
     check_stop,

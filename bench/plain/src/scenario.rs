@@ -224,6 +224,7 @@ impl Cutter {
 pub fn run_scenario(
     mut lines: Lines<impl Read>,
     read: impl Fn(&str) -> serde_json::Result<Fields<'_>>,
+    datanodes: u16,
     settings: Settings,
     from_image: bool,
 ) -> Result<Engine, Refusal> {
@@ -241,7 +242,7 @@ pub fn run_scenario(
     let mut running = true;
     let mut stopped = Ok(());
     while let Some((number, text)) = lines.next()? {
-        match read_line(text, &read) {
+        match read_line(text, datanodes, &read) {
             Ok(Line::Edit(tx)) => {
                 running &= cutter.push(&tx, text.len());
                 if running {
@@ -267,11 +268,12 @@ pub fn run_scenario(
 
 fn read_line<'a>(
     line: &'a [u8],
+    datanodes: u16,
     read: impl Fn(&'a str) -> serde_json::Result<Fields<'a>>,
 ) -> Result<Line<'a>, Fault> {
     if line.len() > MAX_LINE {
         return Err(Fault::LineTooLong);
     }
     let text = std::str::from_utf8(line).map_err(|_| Fault::NotJson)?;
-    read(text).map_err(|_| Fault::NotJson)?.line()
+    read(text).map_err(|_| Fault::NotJson)?.line(datanodes)
 }

@@ -355,7 +355,7 @@ const GATED_REPORTS: Service = Service {
     ..NODES_3
 };
 
-// As many DataNodes as there can be, with one place each, are promoted in the middle.
+// Many DataNodes, with one place each, are promoted in the middle.
 const NODES_256: Service = Service {
     name: "256 DataNodes",
     nodes: 256,

@@ -415,9 +415,9 @@ unsafe fn block_list(mut c: *const u8) -> Option<(BlockList, *const u8)> {
     }
 }
 
-/// Reads the line from `p` up to `end`, where a line feed stands.
+/// Reads the line from `p` up to `end`, where a line feed stands. A report is of a DataNode from 1 to `datanodes`.
 #[inline(always)]
-pub unsafe fn line<'a>(p: *const u8, end: *const u8) -> Option<Line<'a>> {
+pub unsafe fn line<'a>(p: *const u8, end: *const u8, datanodes: u16) -> Option<Line<'a>> {
     if *p != b'{' {
         return None;
     }
@@ -540,7 +540,7 @@ pub unsafe fn line<'a>(p: *const u8, end: *const u8) -> Option<Line<'a>> {
     if seen & 1 << OP == 0 {
         wants!(DN, BLOCK, GEN, LEN, KIND);
         let dn = n!(DN);
-        if dn.wrapping_sub(1) > 255 {
+        if dn.wrapping_sub(1) >= u64::from(datanodes) {
             return None;
         }
         return Some(Line::Report(Report {

@@ -1,18 +1,25 @@
 //! Held messages: a list for each block id, all items in one arena.
 use hashbrown::raw::RawTable;
+use smallvec::SmallVec;
 
 use crate::blocks::Item;
 use crate::hash::{fold, Seeded};
 
-#[derive(Clone, Copy, Debug, Default)]
-struct DnSet([u64; 4]);
+/// A set of DataNodes as bits, as far as the greatest of them. Up to 256 take no memory of their own.
+#[derive(Clone, Debug, Default)]
+struct DnSet(SmallVec<[u64; 4]>);
 
 impl DnSet {
     fn insert(&mut self, dn: u16) {
-        self.0[usize::from(dn - 1) / 64] |= 1 << ((dn - 1) % 64);
+        let at = usize::from(dn - 1) / 64;
+        if at >= self.0.len() {
+            self.0.resize(at + 1, 0);
+        }
+        self.0[at] |= 1 << ((dn - 1) % 64);
     }
     fn contains(&self, dn: u16) -> bool {
-        self.0[usize::from(dn - 1) / 64] >> ((dn - 1) % 64) & 1 != 0
+        let word = self.0.get(usize::from(dn - 1) / 64);
+        word.is_some_and(|word| word >> ((dn - 1) % 64) & 1 != 0)
     }
 }
 

@@ -229,6 +229,7 @@ impl Cutter {
 pub fn run_scenario(
     mut lines: Lines<impl Read>,
     read: impl Fn(&str) -> serde_json::Result<Fields<'_>>,
+    datanodes: u16,
     settings: Settings,
     from_image: bool,
 ) -> Result<Engine, Refusal> {
@@ -260,7 +261,7 @@ pub fn run_scenario(
                     if len > MAX_LINE {
                         break;
                     }
-                    let Some(line) = fast::line(p, p.add(len)) else {
+                    let Some(line) = fast::line(p, p.add(len), datanodes) else {
                         break;
                     };
                     (Some(line), len)
@@ -288,7 +289,7 @@ pub fn run_scenario(
         let Some((number, text)) = lines.next()? else {
             break;
         };
-        match read_line(text, &read) {
+        match read_line(text, datanodes, &read) {
             Ok(Line::Edit(tx)) => {
                 running &= cutter.push(&tx, text.len());
                 if running {
@@ -314,11 +315,12 @@ pub fn run_scenario(
 
 fn read_line<'a>(
     line: &'a [u8],
+    datanodes: u16,
     read: impl Fn(&'a str) -> serde_json::Result<Fields<'a>>,
 ) -> Result<Line<'a>, Fault> {
     if line.len() > MAX_LINE {
         return Err(Fault::LineTooLong);
     }
     let text = std::str::from_utf8(line).map_err(|_| Fault::NotJson)?;
-    read(text).map_err(|_| Fault::NotJson)?.line()
+    read(text).map_err(|_| Fault::NotJson)?.line(datanodes)
 }

@@ -24,7 +24,7 @@ pub trait SegmentSource: Send + 'static {
 
 /// Reads a segment's lines. None where one is no transaction.
 pub fn read_segment(text: &str) -> Option<Segment> {
-    let read = |line| match typed::read(line).ok()?.into_owned().line().ok()? {
+    let read = |line| match typed::read(line).ok()?.into_owned().line(u16::MAX).ok()? {
         Line::Edit(tx) => Some(tx),
         Line::Report(_) => None,
     };

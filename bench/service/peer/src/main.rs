@@ -50,8 +50,8 @@ fn run(words: &[&str]) -> Result<(Vec<u64>, Standby), Box<dyn Error>> {
 
 fn parse_datanodes(word: &str) -> Result<usize, Box<dyn Error>> {
     let datanodes: usize = word.parse()?;
-    if !(8..=256).contains(&datanodes) || datanodes % 8 != 0 {
-        return Err("8 to 256 DataNodes, a multiple of 8".into());
+    if !(8..=4096).contains(&datanodes) || datanodes % 8 != 0 {
+        return Err("8 to 4096 DataNodes, a multiple of 8".into());
     }
     Ok(datanodes)
 }

@@ -26,7 +26,7 @@ use Rattle.nn_run.specs.Shown.{HasFlushed, held_tables, history_part, shown, sum
 use Rattle.nn_run.specs.declared.output.Output.TheVariants as output
 use Rattle.nn_listing.proofs.Lives.{joined, lines_are}
 use Rattle.nn_replicas.proofs.Ties.{safe_mode_more, shows_more}
-use Rattle.nn_listing.proofs.Summaries.{summary_is}
+use Rattle.nn_listing.proofs.Summaries.{text_is}
 use Rattle.nn_listing.proofs.TableLines.{is_of_said, pictured}
 
 -- what a flush says of every log and lanes at which the standby stood, whatever events were forgotten before
@@ -69,7 +69,7 @@ listed_told options y lanes consistent few h =
     let tables : held_tables y ≡ tables_text count y.permille y.table.min n (items lanes) =
     ap (λ m. lines_of_replicas y.table ++ lines_of_orders y.table ++ blocks_line m) (sym same_mode) ∙ pictured count y.permille y.table.min n (items lanes) y.table mode pictures in
     let summary : summary_text (summary_seen y) ≡ summary_text (summary_of count y.permille y.table.min (items lanes) (standby_at_end lanes end)) =
-    summary_is y count (items lanes) consistent few said ∙ ap summary_text (summarized y count lanes h) in
+    text_is y count (items lanes) consistent few said ∙ ap summary_text (summarized y count lanes h) in
     let unsafe_blocks : joined (unsafe_lines y.table.min (live_at y.table) n.rows) ≡ unsafe_text count y.table.min (picture_replica n (items lanes)) n.rows =
     ap joined (lines_are count n y.table shows y.table.min n.rows) ∙ (λ j. unsafe_text count y.table.min (λ dn id. h.picture.replicas dn id j) n.rows) in
     let image = image_part options.image end in

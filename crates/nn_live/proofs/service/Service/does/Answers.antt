@@ -30,6 +30,10 @@ pub returns-in-Block-clause-ok : goal.returns-in-Block-clause-ok
 returns-in-Block-clause-ok g c =
     subst (λ (w : Word). OnOk c.block.result (ServiceSteps (λ asked s. does asked w s) c.args.self.now c.args.self.now (λ text. PutsPiece text c.args.page.now c.args.writer.now c.block.new.page c.block.new.writer))) (sym c.in-Block.is) c.block.ensures.ok
 
+pub returns-in-Unsafe-clause-ok : goal.returns-in-Unsafe-clause-ok
+returns-in-Unsafe-clause-ok g c =
+    subst (λ (w : Word). OnOk c.unsafe_blocks.result (ServiceSteps (λ asked s. does asked w s) c.args.self.now c.args.self.now (λ text. PutsPiece text c.args.page.now c.args.writer.now c.unsafe_blocks.new.page c.unsafe_blocks.new.writer))) (sym c.in-Unsafe.is) c.unsafe_blocks.ensures.ok
+
 pub returns-in-Path-clause-ok : goal.returns-in-Path-clause-ok
 returns-in-Path-clause-ok g c =
     subst (λ (w : Word). OnOk c.path.result (ServiceSteps (λ asked s. does asked w s) c.args.self.now c.args.self.now (λ text. PutsPiece text c.args.page.now c.args.writer.now c.path.new.page c.path.new.writer))) (sym c.in-Path.is) c.path.ensures.ok

@@ -57,7 +57,7 @@ pub record Laning {S : Type 0} (all left : List S) (ws : List (S × Reporter)) (
 pub begins : {S : Type 0} (all left : List S) (ws : List (S × Reporter)) (es : List LaneEnd) → all ≡ left → ws ≡ [] → es ≡ [] → Laning all left ws es
 begins all left ws es q v w = record { done = []; split = q; lanes = (let P : List _ → List LaneEnd → Type 0 = λ a b. HaveLanes 1 [] a b in subst (λ a. P a es) (sym v) (subst (λ b. P [] b) (sym w) tt)) }
 
-pub room : {S : Type 0} (all left : List S) (s : S) (ws : List (S × Reporter)) (es : List LaneEnd) → length all ≤ 256 → Laning all (s ∷ left) ws es → length ws + 1 ≤ 256
+pub room : {S : Type 0} (all left : List S) (s : S) (ws : List (S × Reporter)) (es : List LaneEnd) → length all ≤ 65535 → Laning all (s ∷ left) ws es → length ws + 1 ≤ 65535
 room all left s ws es few h = omega (arith, few, (as_many 1 h.done ws es h.lanes).0, ap length h.split, length-append h.done (s ∷ left))
 
 pub one_lane : {S : Type 0} (all left : List S) (s : S) (ws ws' : List (S × Reporter)) (es es' : List LaneEnd) (w : S × Reporter) (e : LaneEnd)

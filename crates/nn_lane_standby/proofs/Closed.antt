@@ -52,7 +52,7 @@ taken_closed (e ∷ es) (e' ∷ es') (k ∷ ks) c h = (c.0.2, h.1, ap length c.0
 pub keeps_closed : (x : Standby) (es : List LaneEnd) → Keeps x → CloseEnds x.ends es → Keeps (with_ends x es)
 keeps_closed x es k c = record {
   lanes = undelivered_closed 1 x.ends es x.undelivered c k.lanes;
-  few = (let z : length es ≤ 256 = omega (arith, k.few, many_closed x.ends es c) in z);
+  few = (let z : length es ≤ 65535 = omega (arith, k.few, many_closed x.ends es c) in z);
   count = k.count ∙ sym (many_closed x.ends es c);
   numbers = λ dn. k.numbers dn ∙ ap (λ H. length (by_node H dn)) (sym (handed_closed x.ends es x.undelivered c));
   next = k.next;

@@ -20,7 +20,7 @@ SameLane e e' = (lane_of e' ≡ lane_of e) × (e'.closed ≡ e.closed) × (e.clo
 pub keeps_lane : (x : Standby) (i : ℕ) (e : LaneEnd) (k : Option Message) → Keeps x → i < length x.ends → node_of e ≡ 1 + i → IsUndelivered (1 + i) e k → handed_all (set x.ends i e) (set x.undelivered i k) ≡ handed_all x.ends x.undelivered → Keeps (with_lane x i e k)
 keeps_lane x i e k h l n m q = record {
   lanes = lane_set 1 x.ends x.undelivered i e k h.lanes l n m;
-  few = (let z : length (set x.ends i e) ≤ 256 = omega (arith, h.few, length-set x.ends i e) in z);
+  few = (let z : length (set x.ends i e) ≤ 65535 = omega (arith, h.few, length-set x.ends i e) in z);
   count = (let z : length x.shadow.numbers ≡ length (set x.ends i e) = omega (arith, h.count, length-set x.ends i e) in z);
   numbers = λ dn. h.numbers dn ∙ ap (λ H. length (by_node H dn)) (sym q);
   next = h.next;

@@ -37,7 +37,7 @@ pub record IsFresh (start : Namespace) (base lanes : ℕ) (s : Shadow) : Type 0 
 abbrev pub fresh : Shadow → List LaneEnd → List (Option Message) → Standby
 fresh s es ks = record { shadow = s; ends = es; undelivered = ks; rest = []; stop = None; active = false }
 
-pub keeps_fresh : (start : Namespace) (base : ℕ) (s : Shadow) (es : List LaneEnd) (ks : List (Option Message)) → length es ≤ 256 → AreNew 1 es → ks ≡ replicate (length es) None → IsFresh start base (length es) s → Keeps (fresh s es ks)
+pub keeps_fresh : (start : Namespace) (base : ℕ) (s : Shadow) (es : List LaneEnd) (ks : List (Option Message)) → length es ≤ 65535 → AreNew 1 es → ks ≡ replicate (length es) None → IsFresh start base (length es) s → Keeps (fresh s es ks)
 keeps_fresh start base s es ks l n e f = subst (λ z. Keeps (fresh s es z)) (sym e) (record {
   lanes = undelivered_new 1 es n;
   few = l;

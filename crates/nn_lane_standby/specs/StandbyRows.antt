@@ -88,8 +88,8 @@ not_kept_untaken x l h = let undelivered = h.lanes.1 in none undelivered.0 undel
     none [] e = cc
     none (m ∷ ms) e = cc
 
-not_more_than_256_lanes : (x : Standby) (ends : List LaneEnd) → length ends ≡ 257 → Keeps (record x { ends = ends }) → ⊥
-not_more_than_256_lanes x ends many h = omega (arith, h.few, many)
+not_more_than_65535_lanes : (x : Standby) (ends : List LaneEnd) → length ends ≡ 65536 → Keeps (record x { ends = ends }) → ⊥
+not_more_than_65535_lanes x ends many h = omega (arith, h.few, many)
 
 not_a_datanode_without_its_lane : (x : Standby) → Keeps (record x { shadow = record x.shadow { numbers = 0 ∷ [] }; ends = []; undelivered = [] }) → ⊥
 not_a_datanode_without_its_lane x h = let e : 1 ≡ 0 = h.count in omega (arith, e)

@@ -65,13 +65,14 @@ same_lines f (suc few) (suc many) start none more =
 
 -- ---- a summary as it is seen
 
--- the same of so many DataNodes
-abbrev of_more : Shadow → ℕ → Summary
+-- the same of so many DataNodes; of those that there are, the same
+abbrev pub of_more : Shadow → ℕ → Summary
 of_more x count = record (summary_seen x) { datanodes = count }
 
-more_is : (x : Shadow) (count : ℕ) (lanes : Lanes) → IsConsistent x → length x.numbers ≤ count → IsOfSaid count x.namespace lanes x.table
+-- is the one of what the standby shows
+pub summary_is : (x : Shadow) (count : ℕ) (lanes : Lanes) → IsConsistent x → length x.numbers ≤ count → IsOfSaid count x.namespace lanes x.table
     → of_more x count ≡ summary_of count x.permille x.table.min lanes (standby_of x)
-more_is x count lanes c more said =
+summary_is x count lanes c more said =
     let counts = counts_agree count x.namespace x.table c.well_formed.blocks said.shows in
     λ i. record {
       datanodes = count;
@@ -109,7 +110,7 @@ text_more x count more =
     ∙ ap (λ senders. line (codes "txid") (decimal x.last) ++ (line (codes "held") (decimal (length x.held)) ++ (senders ++ (counts_text (summary_seen x).counts ++ blocks_line (summary_seen x).mode)))) (senders_more x count more)
     ∙ summary_lines (of_more x count)
 
--- is the one of what the standby shows
-pub summary_is : (x : Shadow) (count : ℕ) (lanes : Lanes) → IsConsistent x → length x.numbers ≤ count → IsOfSaid count x.namespace lanes x.table
+-- and so is the text
+pub text_is : (x : Shadow) (count : ℕ) (lanes : Lanes) → IsConsistent x → length x.numbers ≤ count → IsOfSaid count x.namespace lanes x.table
     → summary_text (summary_seen x) ≡ summary_text (summary_of count x.permille x.table.min lanes (standby_of x))
-summary_is x count lanes c more said = text_more x count more ∙ ap summary_text (more_is x count lanes c more said)
+text_is x count lanes c more said = text_more x count more ∙ ap summary_text (summary_is x count lanes c more said)

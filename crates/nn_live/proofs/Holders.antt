@@ -144,19 +144,19 @@ module _ (id : ℕ) where
   path_line : (head path about : List ℕ) → (head ++ codes " " ++ path ++ line_feed ∷ []) ++ about ≡ (head ++ codes " " ++ path) ++ line_feed ∷ about
   path_line head path about = simp append_assoc
 
-  pub path_told : (x : StandbyState) → times id (all_blocks x.namespace) ≤ 1 → TellsThePath x.namespace id (block_answer x id) (replicas_answer x id)
-  path_told x most = elim (one_holder x.namespace.rows most) [
+  pub path_told : (count : ℕ) (x : StandbyState) → times id (all_blocks x.namespace) ≤ 1 → TellsThePath x.namespace id (block_answer count x id) (replicas_answer count x id)
+  path_told count x most = elim (one_holder x.namespace.rows most) [
     | inl none ↦
         let gone : block_at x.namespace id ≡ None = (none_of (all_blocks x.namespace) none).1 in
-        inl (gone, ap (λ told. told ++ about_block x id) (no_holder x.namespace.rows none) ∙ ap (λ o. head_text o ++ about_block x id) (sym gone))
+        inl (gone, ap (λ told. told ++ about_block count x id) (no_holder x.namespace.rows none) ∙ ap (λ o. head_text o ++ about_block count x id) (sym gone))
     | inr held ↦ inr (record {
       block = held.block;
       path = held.path;
-      rest = about_block x id;
+      rest = about_block count x id;
       named = held.found;
       there = (held.form, held.row, held.there);
-      without = ap (λ o. head_text o ++ about_block x id) held.found ∙ short_line (block_head held.block) (about_block x id);
-      with_path = ap (λ told. told ++ about_block x id) held.told ∙ path_line (block_head held.block) (path_json held.path) (about_block x id);
+      without = ap (λ o. head_text o ++ about_block count x id) held.found ∙ short_line (block_head held.block) (about_block count x id);
+      with_path = ap (λ told. told ++ about_block count x id) held.told ∙ path_line (block_head held.block) (path_json held.path) (about_block count x id);
     })
   ]
 
@@ -183,7 +183,7 @@ block_tells_the_path asked n base texts id well unbroken =
     let s = served asked n base texts in (
       block_answer asked.datanodes s.standby id,
       replicas_answer asked.datanodes s.standby id,
-      path_told id s.standby ((well_served asked n base texts well unbroken).once id),
+      path_told id asked.datanodes s.standby ((well_served asked n base texts well unbroken).once id),
       refl,
       refl,
     )

@@ -19,7 +19,7 @@ use Rattle.nn_edits.specs.Reading.{either_in, object_in, object_only, value_of}
 use Rattle.nn_live.specs.Words.{or_else, known_word, unknown_word, word_in}
 use Rattle.nn_live.specs.declared.word.Word.{Word}
 use Rattle.nn_bytes.specs.Lines.{is_blank}
-use Rattle.nn_live.specs.Serving.{Service, FollowsStep, fault_text}
+use Rattle.nn_live.specs.Serving.{Service, IsAtService, FollowsStep, fault_text}
 use Rattle.nn_live.proofs.Places.{nothing_done, only_tells, same_makes, then_makes}
 
 -- a fault that is told is the one that is given

@@ -60,17 +60,17 @@ hand_txs (l ∷ lines) p e = at (hand_txs lines) (is_start l.tx.edit) refl (is_e
     at later false starts true ends e = more (none lines (with_line p l) e) starts
     at later false starts false ends e = more (later (with_line p l) e) starts
 
-hand_read : (datanodes : ℕ) (lines : List EditLine) → All (λ (l : EditLine). IsEdit datanodes l.text l.tx) lines → list_all is_unbroken (texts_of lines) ≡ true → (p : Part) → AreRead p → AreRead (hand lines p)
+abbrev Read : ℕ → EditLine → Type 0
+Read datanodes l = IsEdit datanodes l.text l.tx
+
+hand_read : (datanodes : ℕ) (lines : List EditLine) → All (Read datanodes) lines → list_all is_unbroken (texts_of lines) ≡ true → (p : Part) → AreRead p → AreRead (hand lines p)
 hand_read datanodes [] are unbroken p read = read
 hand_read datanodes (l ∷ lines) are unbroken p read =
     let both = and_parts (is_unbroken l.text) (list_all is_unbroken (texts_of lines)) unbroken in
-    hand_read datanodes lines (All-tail Read l lines are) both.1 _ (one (is_start l.tx.edit) both.0)
+    hand_read datanodes lines (All-tail (Read datanodes) l lines are) both.1 _ (one (is_start l.tx.edit) both.0)
   where
-    Read : EditLine → Type 0
-    Read m = IsEdit datanodes m.text m.tx
-
     with_one : is_unbroken l.text ≡ true → (q : Part) → AreRead q → AreRead (with_line q l)
-    with_one unbroken q read = let e = edit_read datanodes l.text l.tx (All-head Read l lines are).read in one_more_read q l.text l.tx read unbroken e.0 e.1
+    with_one unbroken q read = let e = edit_read datanodes l.text l.tx (All-head (Read datanodes) l lines are).read in one_more_read q l.text l.tx read unbroken e.0 e.1
 
     one : (b : Bool) → is_unbroken l.text ≡ true → AreRead (with_line (cond b no_lines p) l)
     one true unbroken = with_one unbroken no_lines none_read
@@ -141,7 +141,7 @@ module _ (asked : LiveSetup) (txs : List Tx) where
   none_written (l ∷ lines) s = none_written lines (with_edit l (counts_line s))
 
 module _ (asked : LiveSetup) (l : EditLine) (lines : List EditLine) (starts : is_start l.tx.edit ≡ true) (ends : ends_once (edits lines) ≡ true)
-    (are : All Read (l ∷ lines)) (unbroken : list_all is_unbroken (texts_of (l ∷ lines)) ≡ true) where
+    (are : All (Read asked.datanodes) (l ∷ lines)) (unbroken : list_all is_unbroken (texts_of (l ∷ lines)) ≡ true) where
   abbrev whole : Part
   whole = part asked l lines starts ends
 
@@ -149,7 +149,7 @@ module _ (asked : LiveSetup) (l : EditLine) (lines : List EditLine) (starts : is
   its_txs = hand_txs lines (with_line no_lines l) ends
 
   its_lines_read : AreRead whole
-  its_lines_read = subst (λ b. AreRead (hand lines (with_line (cond b no_lines no_lines) l))) starts (hand_read (l ∷ lines) are unbroken no_lines none_read)
+  its_lines_read = subst (λ b. AreRead (hand lines (with_line (cond b no_lines no_lines) l))) starts (hand_read asked.datanodes (l ∷ lines) are unbroken no_lines none_read)
 
   pub told : (s : ServiceState) → IsFollowedOrTold (edits (l ∷ lines)) s (run asked (l ∷ lines) s)
   told s = subst (IsFollowedOrTold (edits (l ∷ lines)) s) (sym (runs asked l lines starts ends s)) (at (judged asked (edits (l ∷ lines)) (segment_of u.in_hand) is (record u { in_hand = no_lines; segments = u.segments + 1 })))

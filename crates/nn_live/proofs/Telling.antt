@@ -113,11 +113,11 @@ held : (messages : List Message) → All Ends (map held_line messages)
 held [] = All-nil Ends
 held (m ∷ messages) = All-cons Ends (held_line m) (map held_line messages) (one_held m) (held messages)
 
-unsafe_lines : (min : ℕ) (replica : ℕ → ℕ → Option Replica) (rows : List (Path × Form)) → All Ends (unsafe_in min replica rows)
-unsafe_lines min replica rows = all_of _ (λ row. all_of _ (λ b. one row.0 b (leb min (live_count replica b))) (closed_blocks_of row.1)) rows
+unsafe_lines : (count min : ℕ) (replica : ℕ → ℕ → Option Replica) (rows : List (Path × Form)) → All Ends (unsafe_in count min replica rows)
+unsafe_lines count min replica rows = all_of _ (λ row. all_of _ (λ b. one row.0 b (leb min (live_count count replica b))) (closed_blocks_of row.1)) rows
   where
     text : Path → Block → List ℕ
-    text p b = codes "unsafe " ++ decimal b.id ++ codes " " ++ decimal (live_count replica b) ++ codes " " ++ path_json p ++ line_feed ∷ []
+    text p b = codes "unsafe " ++ decimal b.id ++ codes " " ++ decimal (live_count count replica b) ++ codes " " ++ path_json p ++ line_feed ∷ []
 
     one : (p : Path) (b : Block) (safe : Bool) → All Ends (cond safe [] (text p b ∷ []))
     one p b true = All-nil Ends

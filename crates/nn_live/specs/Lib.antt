@@ -6,6 +6,7 @@ pub mod LiveRows
 pub mod EdgeRows
 pub mod SeenRows
 pub mod WordRows
+pub mod DatanodeRows
 pub mod Laws
 pub mod WordLaws
 pub mod TellingLaws

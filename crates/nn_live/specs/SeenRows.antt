@@ -25,7 +25,7 @@ use Rattle.nn_live.specs.Words.{word_alone, word_in}
 use Rattle.nn_live.specs.LiveRows.{lines, live, from_image, counts_of_the_root}
 
 -- the answer to `status` of a service that has the root alone, with these states, DataNodes that are full, and DataNodes that sent any
-abbrev status : List ℕ → List ℕ → List ℕ → List (List ℕ) → List (List ℕ) → List (List ℕ)
+abbrev pub status : List ℕ → List ℕ → List ℕ → List (List ℕ) → List (List ℕ) → List (List ℕ)
 status state known epoch full datanodes =
     (state ∷ codes "version 1.2.3" ∷ known ∷ codes "passed 0" ∷ codes "segments 0" ∷ codes "edits 0 0" ∷ epoch ∷ [])
     ++ full ++ (codes "txid 0" ∷ codes "held 0" ∷ []) ++ datanodes ++ counts_of_the_root ++ codes "blocks 0 safe 0 needed 0 mode off" ∷ []

@@ -1,5 +1,5 @@
 //! A standby in service: from a reader's bytes to a writer's.
-ghost use Rattle.std.specs.Prelude.{◌≡◌, ◌<◌, ◌-◌, [], List, ℕ, false, ◌++◌, IfOk, IfErr, OnErr};
+ghost use Rattle.std.specs.Prelude.{◌≡◌, ◌≤◌, ◌<◌, ◌-◌, [], List, ℕ, false, ◌++◌, IfOk, IfErr, OnErr};
 ghost use Rattle.nn_device.specs.Device.{Reader as ReaderView, Took, Writer as WriterView};
 ghost use Rattle.nn_device.specs.Page.{HasPut, PutsPiece};
 ghost use Rattle.nn_input.specs.Cut.{IsFresh, ahead};
@@ -56,6 +56,7 @@ pub fn run_live<R: Read, W: Write>(
     input: &mut Reader<R>,
     writer: &mut Writer<W>,
 ) -> Result<RunEnd, RunFault>
+    requires { 1 ≤ options.now.datanodes }
     ensures written { IfOk result (λ end. WroteLive (serving_by options.now input.old input.new) writer.old writer.new end.status) }
     ensures prefix { IfErr result (WroteLivePrefix (serving_by options.now input.old input.new) writer.old writer.new) }
 {
@@ -118,6 +119,7 @@ fn begin<R: Read>(
     options: &LiveOptions,
     input: &mut Reader<R>,
 ) -> Result<ServedInput, LiveEnd>
+    requires { 1 ≤ options.now.datanodes }
     ensures begun { IfOk result (IsUnderWay (serving_by options.now input.old input.new) []) }
     ensures output { IfErr result (λ why. IsLiveOutput (serving_by options.now input.old input.new) (record { text = halt_text why; status = 1 })) }
 {

@@ -67,9 +67,9 @@ impl Model for Service {
 }
 
 impl Service {
-    /// A service that begins at a namespace, of which this was the last transaction (0 where none was). So many DataNodes may report,
-    /// and none has sent anything. With `history` it tells what it does as it happens. The version is the program's. Where memory is refused the
-    /// namespace comes back.
+    /// A service that begins at a namespace, of which this was the last transaction (0 where none was). So many DataNodes may
+    /// report, and none has sent anything. With `history` it tells what it does as it happens. The version is the program's.
+    /// Where memory is refused the namespace comes back.
     pub fn begin(
         alloc: Global,
         namespace: Namespace,

@@ -163,17 +163,18 @@ may_end standby segments new drive.OutOfMemory h = tt
 
 -- ---- The promoted standby.
 
-pub record Arrives (start : Start) (settings : Settings) (lanes : Lanes) (segments : List Segment) (x : Shadow) : Type 0 where
+pub record Arrives (start : Start) (settings : Settings) (count : ℕ) (lanes : Lanes) (segments : List Segment) (x : Shadow) : Type 0 where
   pub log_end : end_of_log start.txid start.namespace segments ≡ Ok (record { last = x.last; namespace = x.namespace })
   pub lawful : IsLawful start.namespace (log_of start.txid (map (λ (s : Segment). s.txs) segments)) (items lanes) x.history
   pub whole : IsWhole start.namespace (log_of start.txid (map (λ (s : Segment). s.txs) segments)) (items lanes) x.history
   pub flushed : HasFlushed lanes (standby_of x)
   pub min : x.table.min ≡ settings.min
   pub permille : x.permille ≡ settings.permille
+  pub datanodes : length x.numbers ≡ count
 
 module _ (settings : Settings) (count : ℕ) (lanes : Lanes) (sources : List (List Report)) (in_memory : AreInMemory count lanes sources) (workers : List (List Report × Reporter)) (before : List LaneEnd) (have : HaveLanes 1 sources workers before)
-    (start : Start) (standby : Standby) (new : IsBegun start before standby) (kept : (standby.shadow.table.min ≡ settings.min) × (standby.shadow.permille ≡ settings.permille)) (segments : List Segment) where
-  pub arrives : (x : Shadow) (active : Active) → IsDriven GivesNext (λ _. 0) GivesReport standby segments workers x active → Arrives start settings lanes segments x
+    (start : Start) (standby : Standby) (new : IsBegun start before standby) (kept : (standby.shadow.table.min ≡ settings.min) × (standby.shadow.permille ≡ settings.permille)) (as_many : length standby.shadow.numbers ≡ count) (segments : List Segment) where
+  pub arrives : (x : Shadow) (active : Active) → IsDriven GivesNext (λ _. 0) GivesReport standby segments workers x active → Arrives start settings count lanes segments x
   arrives x active d =
       let p = d.8 [] start.namespace start.txid [] new.stands in
       let order = in_order segments d.1 d.0 d.3 in
@@ -187,6 +188,7 @@ module _ (settings : Settings) (count : ℕ) (lanes : Lanes) (sources : List (Li
         flushed = subst (λ ls. HasFlushed ls (standby_of x)) same (record { picture = p.picture; none_held = p.none_held; last_numbers = p.stands.last_numbers; had = p.stands.had });
         min = d.7.min ∙ kept.0;
         permille = d.7.permille ∙ kept.1;
+        datanodes = d.7.datanodes ∙ as_many;
       }
 
   pub stop_told : (options : Options) (f : DriveFault) (p : Printed) → NotDriven GivesNext (λ _. 0) standby segments f → TellsStop f p → IsFaultOf options lanes (end_of_log start.txid start.namespace segments) p
@@ -205,10 +207,10 @@ TellsAll options x p =
     → p ≡ with_history options.history x.history (after_log (with_settings options x.permille x.table.min) lanes (Ok (record { last = x.last; namespace = x.namespace })))
 
 -- what is told of it is the output of the log and the lanes
-pub tells : (start : Start) (options : Options) (lanes : Lanes) (segments : List Segment) (x : Shadow) (p : Printed) → Arrives start options.settings lanes segments x
+pub tells : (start : Start) (options : Options) (count : ℕ) (lanes : Lanes) (segments : List Segment) (x : Shadow) (p : Printed) → Arrives start options.settings count lanes segments x
     → TellsAll options x p
     → p ≡ with_history options.history x.history (after_log options lanes (end_of_log start.txid start.namespace segments))
-tells start options lanes segments x p a told =
+tells start options count lanes segments x p a told =
     told lanes a.flushed
     ∙ (λ j. with_history options.history x.history (after_log (with_settings options (a.permille j) (a.min j)) lanes (Ok (record { last = x.last; namespace = x.namespace }))))
     ∙ ap (λ w. with_history options.history x.history (after_log options lanes w)) (sym a.log_end)

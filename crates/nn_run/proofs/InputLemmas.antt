@@ -67,6 +67,6 @@ module _ {asked : Bool} {loaded : Option (Result (Namespace × ℕ) ImageFault)}
   lines_unread c OutOfMemory why = why ∙ x.came.unfailed
 
 -- no byte is read as no line
-pub no_lines_read : scenario_of [] ≡ Ok (scenario_with (nothing_read.parts ++ last_part nothing_read.in_hand) nothing_read.steps)
+pub no_lines_read : (datanodes : ℕ) → scenario_of datanodes [] ≡ Ok (scenario_with (nothing_read.parts ++ last_part nothing_read.in_hand) nothing_read.steps)
 no_lines_read =
     sym (whole_input []) ∙ ap (λ ps. follow nothing_read (lines_from 1 ps)) (one_piece [] refl) ∙ turn 1 [] [] nothing_read nothing_read refl ∙ no_more 2 nothing_read

@@ -105,7 +105,7 @@ told_bad_segment start options scenario bad p are is = record {
 -- ---- Lines.
 
 -- a line that is refused
-pub printed_of_bad : (start : Start) (threads : Bool) (options : Options) (text : List ℕ) (bad : ScenarioFault) (p : Printed) → scenario_of text ≡ Err bad
+pub printed_of_bad : (start : Start) (threads : Bool) (options : Options) (text : List ℕ) (bad : ScenarioFault) (p : Printed) → scenario_of options.datanodes text ≡ Err bad
     → p ≡ after_lines start options (Err bad) → IsPrintedFrom start threads options text p
 unfolding output_of
 printed_of_bad start threads options text bad p read is = record {
@@ -115,7 +115,7 @@ printed_of_bad start threads options text bad p read is = record {
 }
 
 -- what is told of a scenario is what is printed for its text
-pub printed_of_told : (start : Start) (threads : Bool) (options : Options) (text : List ℕ) (scenario : Scenario) (p : Printed) → scenario_of text ≡ Ok scenario
+pub printed_of_told : (start : Start) (threads : Bool) (options : Options) (text : List ℕ) (scenario : Scenario) (p : Printed) → scenario_of options.datanodes text ≡ Ok scenario
     → IsToldOf start threads options scenario.steps (segments_from 1 scenario.parts) p → IsPrintedFrom start threads options text p
 unfolding output_of
 printed_of_told start threads options text scenario p read told = record {

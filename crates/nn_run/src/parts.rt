@@ -13,7 +13,7 @@ use nn_device::Reader;
 use nn_image::{FrontImage, load_front};
 use nn_input::{InputFault, Lines};
 use nn_scenario::{Reading, Scenario, ScenarioFault, follow_lines, scenario_of};
-use std::alloc::{AllocError, Global};
+use std::alloc::Global;
 use std::io::Read;
 
 /// What the image of an input is read as, where it is asked for and there, and the scenario or its first line that is refused.
@@ -45,8 +45,8 @@ pub(crate) fn read_parts<R: Read>(
         return Ok(InputParts { loaded, lines });
     }
     match load_front(alloc, &mut lines, input)? {
-        FrontImage::Missing => Ok(without_lines(alloc, None)?),
-        FrontImage::Torn(fault) => Ok(without_lines(alloc, Some(Err(fault)))?),
+        FrontImage::Missing => Ok(without_lines(alloc, None)),
+        FrontImage::Torn(fault) => Ok(without_lines(alloc, Some(Err(fault)))),
         FrontImage::Ended(loaded) => match read_lines(alloc, datanodes, &mut lines, input) {
             Ok(lines) => {
                 let loaded = Some(loaded);
@@ -78,11 +78,11 @@ fn read_lines<R: Read>(
 }
 
 // The parts of an input that ends before a scenario.
-fn without_lines(alloc: Global, loaded: Option<Loaded>) -> Result<InputParts, AllocError>
-    ensures loaded { IfOk result (λ r. r.loaded ≡ loaded) }
-    ensures none { IfOk result (λ r. (datanodes : ℕ) → IsScenarioOf datanodes [] r.lines) }
+fn without_lines(alloc: Global, loaded: Option<Loaded>) -> InputParts
+    ensures loaded { result.loaded ≡ loaded }
+    ensures none { (datanodes : ℕ) → IsScenarioOf datanodes [] result.lines }
 {
     let reading = Reading::new(alloc);
     let lines = scenario_of(Ok(reading));
-    Ok(InputParts { loaded, lines })
+    InputParts { loaded, lines }
 }

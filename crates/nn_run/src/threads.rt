@@ -208,6 +208,7 @@ fn standby_over(
     ensures serves { IfOk result (λ x. has_begun x ≡ false) }
     ensures begun { IfOk result (IsBegun (start_of begin) ends.items) }
     ensures settings { IfOk result (λ x. (x.shadow.table.min ≡ settings.min) × (x.shadow.permille ≡ settings.permille)) }
+    ensures datanodes { IfOk result (λ x. length x.shadow.numbers ≡ length ends.items) }
 {
     let Begin { namespace, txid } = begin;
     let Ok(standby) = Standby::from_namespace(alloc, ends, settings, namespace, txid) else {

@@ -60,6 +60,7 @@ impl Standby {
         ensures point { IfOk result (λ x. point_of x ≡ (namespace, txid)) }
         ensures new { IfOk result (IsNewAt namespace txid ends.items) }
         ensures settings { IfOk result (λ x. (x.shadow.table.min ≡ settings.min) × (x.shadow.permille ≡ settings.permille)) }
+        ensures datanodes { IfOk result (λ x. length x.shadow.numbers ≡ length ends.items) }
         ensures err { IfErr result (λ fault. fault.ends ≡ ends) }
     {
         let lanes = ends.len();

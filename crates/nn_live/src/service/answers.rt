@@ -280,15 +280,11 @@ impl Service {
     }
 }
 
-// A DataNode that is none above so many, or 0, which is none.
+// This DataNode, or 0, which is none, where it is above so many.
 fn lane_of(count: u16, dn: u64) -> u16
     ensures { result ≡ (if nat_le dn count then dn else 0) }
 {
-    if dn <= u64::from(count) {
-        dn as u16
-    } else {
-        0
-    }
+    if dn <= u64::from(count) { dn as u16 } else { 0 }
 }
 
 // The names of a path, from the root down.

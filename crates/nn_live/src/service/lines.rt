@@ -184,7 +184,8 @@ impl Service {
     }
 }
 
-// Reads a line of data, where so many DataNodes report. The edits of a segment in hand keep their paths, so no text is kept from line to line.
+// Reads a line of data, where so many DataNodes report. The edits of a segment in hand keep their paths, so no text is kept from
+// line to line.
 fn read_data(
     alloc: Global,
     scratch: &mut Scratch,

@@ -23,7 +23,7 @@ use std::alloc::{AllocError, Global};
 impl Shadow {
     /// A standby over a namespace, of which this was the last transaction (0 where none was), before the next one, for so
     /// many DataNodes: no DataNode has reported anything. Its table has a row for each block of a file, closed or open. It
-    /// takes time in the blocks of the namespace.
+    /// takes time in the blocks of the namespace, and some 70 bytes for each DataNode, whether that reports or not.
     pub fn from(
         alloc: Global,
         namespace: Namespace,

@@ -8,7 +8,7 @@ pub overflow_cast-dn : goal.overflow_cast-dn
 overflow_cast-dn g c =
     let here = subst (λ l. Laning c.args.sources.items l c.loop-source.workers.items c.loop-source.ends.items) c.in-Some.ensures.steps.0 c.loop-source.invariant.laning in
     let r = room c.args.sources.items (into_iter_items c.next.new.self) c.in-Some.source c.loop-source.workers.items c.loop-source.ends.items c.requires.few here in
-    let low : c.len.result + 1 ≤ 256 = omega (arith, r, c.len.ensures, c.loop-source.workers.ok.0) in
+    let low : c.len.result + 1 ≤ 65535 = omega (arith, r, c.len.ensures, c.loop-source.workers.ok.0) in
     search rules
 
 pub lane-requires-clause-dn : goal.lane-requires-clause-dn

@@ -5,7 +5,7 @@ use Rattle.nn_replicas.specs.SafeMode.{counts_of}
 use Rattle.nn_listing.specs.Counted.{counts_told, sender_seen, summary_seen}
 use Rattle.nn_listing.specs.Summary.{Summary, summary_text}
 use Rattle.nn_listing.proofs.Pieces.{summary_lines}
-use Rattle.nn_listing.proofs.Summaries.{summary_is}
+use Rattle.nn_listing.proofs.Summaries.{text_is}
 use Rattle.nn_listing.proofs.summary.put_summary.Goals as goal
 
 pub returns-clause-seen : goal.returns-clause-seen
@@ -38,5 +38,5 @@ returns-clause-seen g c =
 
 pub returns-clause-said : goal.returns-clause-said
 returns-clause-said g c datanodes lanes more said =
-    subst (λ text. PutsPiece text c.args.page.now c.args.writer.now c.put_counts.new.page c.put_counts.new.writer) (summary_is c.args.shadow.now datanodes lanes c.recall_invariant.ensures more said)
+    subst (λ text. PutsPiece text c.args.page.now c.args.writer.now c.put_counts.new.page c.put_counts.new.writer) (text_is c.args.shadow.now datanodes lanes c.recall_invariant.ensures more said)
     (returns-clause-seen g c)

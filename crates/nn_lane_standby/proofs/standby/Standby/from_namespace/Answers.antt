@@ -24,3 +24,8 @@ returns-clause-new c =
     let s : IsFresh n t c.len-lanes.result c.in-Ok-from.shadow = record { begun = f.fresh; stands = f.stands; phase = f.phase; count = f.settings.0 } in
     rw c.new.ensures (is_new_at n t c.in-Ok-from.shadow c.args.ends.items c.in-Ok.undelivered.items c.requires.fresh
     (c.in-Ok.ensures ∙ ap (λ n. replicate n None) q) (subst (λ k. IsFresh n t k c.in-Ok-from.shadow) q s))
+
+pub returns-clause-datanodes : goal.returns-clause-datanodes
+returns-clause-datanodes c =
+    let q : c.len-lanes.result ≡ length c.args.ends.items = omega (arith, c.len-lanes.ensures, c.args.ends.ok.0) in
+    c.in-Ok-from.ensures.settings.0 ∙ q

@@ -22,14 +22,20 @@ pub edit-requires-clause-read : goal.edit-requires-clause-read
 edit-requires-clause-read g c = edit_alone c.lanes.result c.args.text.now c.in-Ok-Edit.tx (c.in-Ok-Edit.ensures.exact ∙ ap (λ (l : Line). Ok l) c.in-Ok-Edit.field-0-is)
 
 pub returns-in-Ok-Edit-clause-ok : goal.returns-in-Ok-Edit-clause-ok
-returns-in-Ok-Edit-clause-ok g c = IfOk-weaker c.edit.result _ _ (λ _ step.
-    (step.0, step.1, edit_read c.args.text.now c.args.self.now c.in-Ok-Edit.tx c.edit.new.self step.0
-    (read_for c.args.self.now _ c.lanes.result c.args.text.now _ c.lanes.ensures.lanes c.self.view_is (c.in-Ok-Edit.ensures.exact ∙ ap (λ (l : Line). Ok l) c.in-Ok-Edit.field-0-is)) step.2)) c.edit.ensures.ok
+returns-in-Ok-Edit-clause-ok g c = IfOk-weaker c.edit.result _ _ (λ _ step. (
+  step.0,
+  step.1,
+  edit_read c.args.text.now c.args.self.now c.in-Ok-Edit.tx c.edit.new.self step.0
+      (read_for c.args.self.now (seen_of c.self.inside) c.lanes.result c.args.text.now _ c.lanes.ensures.lanes c.self.view_is (c.in-Ok-Edit.ensures.exact ∙ ap (λ (l : Line). Ok l) c.in-Ok-Edit.field-0-is)) step.2,
+)) c.edit.ensures.ok
 
 pub returns-in-Ok-Report-clause-ok : goal.returns-in-Ok-Report-clause-ok
-returns-in-Ok-Report-clause-ok g c = IfOk-weaker c.report.result _ _ (λ _ step.
-    (step.0, step.1, report_read c.args.text.now c.args.self.now c.in-Ok-Report.report c.report.new.self step.0
-    (read_for c.args.self.now _ c.lanes.result c.args.text.now _ c.lanes.ensures.lanes c.self.view_is (c.in-Ok-Report.ensures.exact ∙ ap (λ (l : Line). Ok l) c.in-Ok-Report.field-0-is)) step.2)) c.report.ensures.ok
+returns-in-Ok-Report-clause-ok g c = IfOk-weaker c.report.result _ _ (λ _ step. (
+  step.0,
+  step.1,
+  report_read c.args.text.now c.args.self.now c.in-Ok-Report.report c.report.new.self step.0
+      (read_for c.args.self.now (seen_of c.self.inside) c.lanes.result c.args.text.now _ c.lanes.ensures.lanes c.self.view_is (c.in-Ok-Report.ensures.exact ∙ ap (λ (l : Line). Ok l) c.in-Ok-Report.field-0-is)) step.2,
+)) c.report.ensures.ok
 
 pub returns-in_default : goal.returns-in_default
 returns-in_default g c =
@@ -42,9 +48,12 @@ returns-in_default g c =
     record { ok = (text, c.put_fault.ensures, subst (λ (v : Service). FollowsStep step v v text) c.self.view_is told); exhausted = λ never. absurd (cc); prefix = tt }
 
 pub returns-in-Ok-Edit-clause-prefix : goal.returns-in-Ok-Edit-clause-prefix
-returns-in-Ok-Edit-clause-prefix g c = IfErr-weaker c.edit.result _ _ (λ _ prefix.
-    (prefix.0, prefix.1, edit_breaks c.args.text.now c.args.self.now c.in-Ok-Edit.tx prefix.0
-    (read_for c.args.self.now _ c.lanes.result c.args.text.now _ c.lanes.ensures.lanes c.self.view_is (c.in-Ok-Edit.ensures.exact ∙ ap (λ (l : Line). Ok l) c.in-Ok-Edit.field-0-is)) prefix.2)) c.edit.ensures.prefix
+returns-in-Ok-Edit-clause-prefix g c = IfErr-weaker c.edit.result _ _ (λ _ prefix. (
+  prefix.0,
+  prefix.1,
+  edit_breaks c.args.text.now c.args.self.now c.in-Ok-Edit.tx prefix.0
+      (read_for c.args.self.now (seen_of c.self.inside) c.lanes.result c.args.text.now _ c.lanes.ensures.lanes c.self.view_is (c.in-Ok-Edit.ensures.exact ∙ ap (λ (l : Line). Ok l) c.in-Ok-Edit.field-0-is)) prefix.2,
+)) c.edit.ensures.prefix
 
 pub returns-in-Ok-Report-clause-prefix : goal.returns-in-Ok-Report-clause-prefix
 returns-in-Ok-Report-clause-prefix g c = IfErr-weaker c.report.result _ _ (λ _ left.

@@ -6,6 +6,7 @@ use Rattle.nn_device.proofs.Pages.{puts_nothing}
 use Rattle.nn_live.specs.Help.{help_text, unknown_text}
 use Rattle.nn_live.specs.Live.{LiveSetup, ServiceState, does, empty_report, hands}
 use Rattle.nn_live.specs.Serving.{FollowsStep, IsAtService, Service, ServiceSteps, TellsPrefix}
+use Rattle.nn_live.specs.contracts.service.Service.{the_view as seen_of}
 use Rattle.nn_live.specs.declared.word.Word.{Word}
 use Rattle.nn_live.specs.declared.word.Word.TheVariants as word
 use Rattle.nn_live.proofs.Breaking.{begin_handed, none_done_of, none_told_of, same_told_of}
@@ -28,6 +29,10 @@ gone_as x v lanes dn other e here is asked s i =
 pub returns-in-Block-clause-ok : goal.returns-in-Block-clause-ok
 returns-in-Block-clause-ok g c =
     subst (λ (w : Word). OnOk c.block.result (ServiceSteps (λ asked s. does asked w s) c.args.self.now c.args.self.now (λ text. PutsPiece text c.args.page.now c.args.writer.now c.block.new.page c.block.new.writer))) (sym c.in-Block.is) c.block.ensures.ok
+
+pub returns-in-Unsafe-clause-ok : goal.returns-in-Unsafe-clause-ok
+returns-in-Unsafe-clause-ok g c =
+    subst (λ (w : Word). OnOk c.unsafe_blocks.result (ServiceSteps (λ asked s. does asked w s) c.args.self.now c.args.self.now (λ text. PutsPiece text c.args.page.now c.args.writer.now c.unsafe_blocks.new.page c.unsafe_blocks.new.writer))) (sym c.in-Unsafe.is) c.unsafe_blocks.ensures.ok
 
 pub returns-in-Path-clause-ok : goal.returns-in-Path-clause-ok
 returns-in-Path-clause-ok g c =
@@ -81,7 +86,7 @@ returns-in-Gone-clause-ok g c = IfOk-weaker c.gone.result _ _ (λ _ step. (
   step.1,
   subst (λ (w : Word). FollowsStep (λ asked s. does asked w s) c.args.self.now c.gone.new.self step.0) (sym c.in-Gone.is)
       (same_makes (λ asked s. does asked (word.Gone c.in-Gone.dn) s) (λ asked s. hands asked false (empty_report c.lane_of-dn.result) s) c.args.self.now c.gone.new.self step.0
-      (gone_as c.args.self.now _ c.lanes.result c.in-Gone.dn c.lane_of-dn.result c.lanes.ensures.lanes c.self.view_is c.lane_of-dn.ensures) step.2),
+      (gone_as c.args.self.now (seen_of c.self.inside) c.lanes.result c.in-Gone.dn c.lane_of-dn.result c.lanes.ensures.lanes c.self.view_is c.lane_of-dn.ensures) step.2),
 )) c.gone.ensures.ok
 
 pub returns-in-Unsafe-clause-prefix : goal.returns-in-Unsafe-clause-prefix
@@ -110,6 +115,6 @@ returns-in-Gone-clause-prefix g c = IfErr-weaker c.gone.result _ _ (λ _ cut. el
     begun.1,
     subst (λ (w : Word). TellsPrefix (doing w) c.args.self.now begun.0) (sym c.in-Gone.is)
         (same_told_of (doing (word.Gone c.in-Gone.dn)) (λ asked s. hands asked false (empty_report c.lane_of-dn.result) s) c.args.self.now begun.0
-        (gone_as c.args.self.now _ c.lanes.result c.in-Gone.dn c.lane_of-dn.result c.lanes.ensures.lanes c.self.view_is c.lane_of-dn.ensures) (begin_handed c.args.self.now c.gone.new.self c.lane_of-dn.result begun.0 begun.2)),
+        (gone_as c.args.self.now (seen_of c.self.inside) c.lanes.result c.in-Gone.dn c.lane_of-dn.result c.lanes.ensures.lanes c.self.view_is c.lane_of-dn.ensures) (begin_handed c.args.self.now c.gone.new.self c.lane_of-dn.result begun.0 begun.2)),
   )
 ]) c.gone.ensures.cut

@@ -18,8 +18,8 @@ returns-in_err-push-clause-exhausted g c = λ is. inl (subst (λ (v : Service). 
 pub invariant_of-self-then-not-ends : goal.invariant_of-self-then-not-ends
 invariant_of-self-then-not-ends g c =
     let line : EditLine = record { text = c.args.text.now; tx = c.args.tx } in
-    let kept = c.self.invariant.1 in
-    (c.self.invariant.0, (with_line kept.0 line, still_open kept.0 line c.push.new.self (sym c.if-not-ends.ensures) (c.in_ok-push.ensures.ok kept.0 kept.1)), c.self.invariant.2)
+    let kept = c.self.invariant.0 in
+    ((with_line kept.0 line, still_open kept.0 line c.push.new.self (sym c.if-not-ends.ensures) (c.in_ok-push.ensures.ok kept.0 kept.1)), c.self.invariant.1)
 
 pub returns-then-not-ends-clause-ok : goal.returns-then-not-ends-clause-ok
 returns-then-not-ends-clause-ok g c =

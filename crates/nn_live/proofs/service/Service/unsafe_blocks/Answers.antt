@@ -12,6 +12,7 @@ use Rattle.nn_listing.specs.Summary.{line}
 use Rattle.nn_listing.specs.Safety.{unsafe_in}
 use Rattle.nn_live.specs.Answers.{first_lines}
 use Rattle.nn_live.specs.Serving.{Service, figures_seen}
+use Rattle.nn_live.specs.contracts.service.Service.{the_view as seen_of}
 use Rattle.nn_live.proofs.Answering.{unsafe_told}
 use Rattle.nn_listing.proofs.Lives.{all_lines, joined, unsafe_count}
 use Rattle.nn_live.proofs.service.Service.unsafe_blocks.Goals as goal
@@ -33,7 +34,7 @@ returns-in-Some-clause-ok g c =
     let x = c.args.self.now in
     let min = c.self.invariant.1 ∙ ap (λ (v : Service). v.shadow.table.min) c.self.view_is in
     let table = c.replicas-table.ensures ∙ ap (λ (v : Service). v.shadow.table) c.self.view_is in
-    let shows = shows_lent x _ c.replicas-table.result.now c.recall_invariant.ensures.shows c.self.view_is table in
+    let shows = shows_lent x (seen_of c.self.inside) c.replicas-table.result.now c.recall_invariant.ensures.shows c.self.view_is table in
     let same = same_lines x c.self.inside.min c.replicas-table.result.now c.in-Ok.rows.left min table c.in-Ok.ensures.left in
     let mode = c.safe_mode-total.ensures ∙ ap (λ (v : Service). (figures_seen v).standby.mode) c.self.view_is in
     let count : c.saturating_sub-count.result ≡ length (lines_of x) = c.saturating_sub-count.ensures ∙ unsafe_count (length x.shadow.numbers) x.shadow.permille x.shadow.table.min x.shadow.namespace (replica_at x.shadow.table) (counts_of c.safe_mode-total.result) mode in
@@ -51,7 +52,7 @@ returns-in_default-most-clause-ok g c =
     let x = c.args.self.now in
     let min = c.self.invariant.1 ∙ ap (λ (v : Service). v.shadow.table.min) c.self.view_is in
     let table = c.replicas-table.ensures ∙ ap (λ (v : Service). v.shadow.table) c.self.view_is in
-    let shows = shows_lent x _ c.replicas-table.result.now c.recall_invariant.ensures.shows c.self.view_is table in
+    let shows = shows_lent x (seen_of c.self.inside) c.replicas-table.result.now c.recall_invariant.ensures.shows c.self.view_is table in
     let same = same_lines x c.self.inside.min c.replicas-table.result.now c.in-Ok.rows.left min table c.in-Ok.ensures.left in
     let mode = c.safe_mode-total.ensures ∙ ap (λ (v : Service). (figures_seen v).standby.mode) c.self.view_is in
     let count : c.saturating_sub-count.result ≡ length (lines_of x) = c.saturating_sub-count.ensures ∙ unsafe_count (length x.shadow.numbers) x.shadow.permille x.shadow.table.min x.shadow.namespace (replica_at x.shadow.table) (counts_of c.safe_mode-total.result) mode in

@@ -33,7 +33,7 @@ returns-then-txid-last-clause-ok c =
 pub apply_next-requires : goal.apply_next-requires
 apply_next-requires c =
     let none = None-if_not_some c.self.inside.stop (sym c.is_some.ensures ∙ c.if-is_some.false) in
-    is_in_turn c.self.inside.shadow c.args.tx.now (c.self.invariant.0 none).0
+    is_in_turn c.self.inside.shadow c.args.tx.now (c.self.invariant.0 none)
     (sym c.get-txid.ensures.value ∙ c.if-txid-last.false ∙ ap (λ n. n + 1) (c.get-last.ensures.value ∙ c.last_txid.ensures.last))
 
 pub returns-in-Err-clause-ok : goal.returns-in-Err-clause-ok

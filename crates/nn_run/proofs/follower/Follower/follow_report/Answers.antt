@@ -8,13 +8,13 @@ use Rattle.nn_run.proofs.follower.Follower.follow_report.Goals as goal
 
 pub invariant_of-self : goal.invariant_of-self
 invariant_of-self c = (
-  λ none. (let k = c.self.invariant.0 none in (c.hand_next.ensures.phase ∙ k.0, c.hand_next.ensures.settings.datanodes ∙ k.1)),
+  λ none. c.hand_next.ensures.phase ∙ c.self.invariant.0 none,
   λ dn. subst (λ n. n ≤ c.self.inside.messages) (sym (ap (λ (s : StandbyState). s.last_number dn) c.in_err-hand_next.ensures.left)) (c.self.invariant.1 dn),
 )
 
 pub invariant_of-self-2 : goal.invariant_of-self-2
 invariant_of-self-2 c = (
-  λ none. (let k = c.self.invariant.0 none in (c.hand_next.ensures.phase ∙ k.0, c.hand_next.ensures.settings.datanodes ∙ k.1)),
+  λ none. c.hand_next.ensures.phase ∙ c.self.invariant.0 none,
   numbers_grow c.self.inside.shadow c.hand_next.new.self _ c.self.inside.messages c.in_ok-hand_next.ensures.ok c.self.invariant.1
       (let k = c.self.invariant.1 c.args.report.now.dn in omega (arith, c.last_number.ensures, k)),
 )
